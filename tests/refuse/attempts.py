@@ -3,6 +3,7 @@
 import collections
 import concurrent.futures
 import os
+import random
 import re
 import subprocess
 import tempfile
@@ -20,8 +21,10 @@ CORES = len(os.sched_getaffinity(0))
 STOPPED = 77
 # How many seconds a run may take.
 PATIENCE = 60
-# Of the requests of an opening, those whose number is a multiple of this are refused in the short sweep.
-STEP = 11
+# Of the requests of an opening, and of those beside a slow looker, the short sweep refuses each third. Which of three
+# they are differs from run to run; OFFSET=N in the environment repeats a run.
+STEP = 3
+OFFSET = int(os.environ.get("OFFSET", random.randrange(STEP))) % STEP
 # No run makes as many requests or calls.
 MOST_PLACES = 40000
 # What is told of a database that was opened: why a commit failed, and that its log couldn't be moved into its file.
@@ -46,12 +49,18 @@ class Ended(NamedTuple):
 def places_of(told, is_whole, step=1):
     """The places of a sweep over a new database, by what a run told that met nothing; the last place meets nothing.
 
-    A whole sweep has each request. Otherwise it is each STEPth of the opening, and after it each, or each `step`th.
+    A whole sweep has each request. Otherwise it is each STEPth of the opening, and after it each, or each `step`th: those
+    whose number leaves OFFSET.
     """
     made, opening, _ = told
     if is_whole:
         return range(1, made + 2)
-    return [*range(STEP, opening + 1, STEP), *range(opening + 1, made + 1, step), made + 1]
+
+    def is_chosen(place):
+        among = STEP if place <= opening else step
+        return place % among == OFFSET % among
+
+    return [place for place in range(1, made + 1) if is_chosen(place)] + [made + 1]
 
 
 def text_of(path):

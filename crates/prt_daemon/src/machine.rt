@@ -1,100 +1,80 @@
 //! The machine that `prt` runs on.
-ghost use Rattle.std.specs.Prelude.{IfOk};
-ghost use Rattle.sqlite.specs.Files.{IsOpened, file_state};
-ghost use Rattle.sqlite.specs.State.{HasCleanDisk};
+ghost use Rattle.std.specs.Prelude.{IfOk, OnErr, OnOk};
+ghost use Rattle.prt_daemon.specs.Openings.{IsThere, Opens, Refuses};
+ghost use Rattle.prt_questions.specs.declared.machine.Wanted.TheVariants.{Ours};
 
+use crate::calls::Calls;
 use prt_host::{Machine, Wanted};
 use prt_rows::has_table;
-use sqlite::{Connection, Error, ErrorCode, File, FileStore};
-use std::fs::{self, OpenOptions};
+use sqlite::{Alter, Connection, Error, ErrorCode};
 use std::io;
 
-/// The files of this machine. It alone names real ones.
-#[derive(Clone, Copy)]
-pub(crate) struct ThisMachine<'a> {
-    pub(crate) host: &'a HostRuntime,
+/// The files of this machine, by its calls.
+#[derive(Drop)]
+pub(crate) struct ThisMachine<K> {
+    pub(crate) calls: K,
 }
 
-/// Returns how many bytes the file at a path has. `None` if there is none, or the system doesn't say.
-fn size_of(host: &HostRuntime, path: &str) -> Option<u64> {
-    let metadata = fs::metadata(host, path).ok()?;
-    Some(metadata.len())
+/// Checks that the system says of the file at a path that it has a byte at least: an opening would make the file, or write to
+/// an empty one.
+fn check_there<C, K: Calls<C>>(calls: &K, path: &str) -> Result<(), Error>
+    ensures { OnOk result (IsThere K.has_size calls.now path.now) }
+{
+    match calls.size_of(path) {
+        None => Err(Error::SqliteFailure(ErrorCode::CannotOpen)),
+        Some(0) => Err(Error::SqliteFailure(ErrorCode::NotADatabase)),
+        Some(_) => Ok(()),
+    }
 }
 
 /// Opens the database file at a path, if it is there and has a table of ours. No other file is changed.
-fn open_ours(host: &HostRuntime, path: &str) -> Result<Connection<FileStore<File>>, Error>
-    ensures { IfOk result (λ conn. HasCleanDisk (file_state conn) → IsOpened conn) }
+fn open_ours<S: Alter, K: Calls<Connection<S>>>(
+    calls: &mut K,
+    path: &str,
+) -> Result<Connection<S>, Error>
+    ensures opened { IfOk result (Opens K.has_size K.opens calls.old calls.new path.now Ours) }
+    ensures there { OnOk result (IsThere K.has_size calls.old path.now) }
+    ensures unopened { OnErr result (Refuses K.has_size K.opens K.fails K.closes calls.old calls.new path.now Ours) }
 {
-    // An opening would make the file, or write to one without a byte.
-    match size_of(host, path) {
-        None => return Err(Error::SqliteFailure(ErrorCode::CannotOpen)),
-        Some(0) => return Err(Error::SqliteFailure(ErrorCode::NotADatabase)),
-        Some(_) => {}
+    if let Err(error) = check_there(&*calls, path) {
+        return Err(error);
     }
-    let conn = Connection::open(host, path)?;
+    let conn = match calls.open(path) {
+        Ok(conn) => conn,
+        Err(error) => return Err(error),
+    };
     if has_table(conn.schema(), "meta") {
         return Ok(conn);
     }
-    conn.close()?;
-    Err(Error::SqliteFailure(ErrorCode::NotADatabase))
-}
-
-/// Asks the system why there is no new file at a path. One that it makes is removed again.
-fn reason_for_none(host: &HostRuntime, path: &str) -> Option<io::Error> {
-    match OpenOptions::new()
-        .write(true)
-        .create_new(true)
-        .open(host, path)
-    {
-        Ok(_) => {
-            let _ = fs::remove_file(host, path);
-            None
-        }
-        Err(error) => Some(error),
+    match calls.close(conn) {
+        Ok(()) => Err(Error::SqliteFailure(ErrorCode::NotADatabase)),
+        Err(error) => Err(error),
     }
 }
 
-/// Asks the system why a file can't be opened for reading and writing and, if any is wanted, can't be made. Returns `None` if
-/// it can be.
-fn system_reason(host: &HostRuntime, path: &str, wanted: Wanted) -> Option<io::Error> {
-    let error = match OpenOptions::new().read(true).write(true).open(host, path) {
-        Ok(_) => return None,
-        Err(error) => error,
-    };
-    match (wanted, error.kind()) {
-        (Wanted::Any, io::ErrorKind::NotFound) => reason_for_none(host, path),
-        _ => Some(error),
-    }
-}
+impl<S: Alter, K: Calls<Connection<S>>> Machine<Connection<S>> for ThisMachine<K> {
+    ghost use Rattle.prt_daemon.specs.Openings.{IsThere, Opens, Refuses};
 
-impl<'a> Machine<Connection<FileStore<File>>> for ThisMachine<'a> {
-    ghost use Rattle.std.specs.Prelude.{⊤};
-    ghost use Rattle.sqlite.specs.Files.{IsOpened, file_state};
-    ghost use Rattle.sqlite.specs.State.{HasCleanDisk};
+    ghost opens = { λ wanted old new path conn. Opens K.has_size K.opens old.calls new.calls path wanted conn };
 
-    // Which bytes a path has is not known.
-    ghost opens = { λ _ _ _ conn. HasCleanDisk (file_state conn) → IsOpened conn };
+    ghost refuses = { λ wanted old new path. Refuses K.has_size K.opens K.fails K.closes old.calls new.calls path wanted };
 
-    ghost refuses = { λ _ _ _. ⊤ };
+    ghost closes = { λ old new conn. K.closes old.calls new.calls conn };
 
-    ghost closes = { λ _ _ _. ⊤ };
+    ghost is_there = { λ old path. IsThere K.has_size old.calls path };
 
-    ghost is_there = { λ _ _. ⊤ };
-
-    fn open(&mut self, path: &str, wanted: Wanted) -> Result<Connection<FileStore<File>>, Error> {
+    fn open(&mut self, path: &str, wanted: Wanted) -> Result<Connection<S>, Error> {
         match wanted {
-            Wanted::Any => Connection::open(self.host, path),
-            Wanted::Ours => open_ours(self.host, path),
+            Wanted::Any => self.calls.open(path),
+            Wanted::Ours => open_ours(&mut self.calls, path),
         }
     }
 
     fn why_not(&self, path: &str, wanted: Wanted) -> Option<io::Error> {
-        system_reason(self.host, path, wanted)
+        self.calls.why_not(path, wanted)
     }
 
-    fn close(&mut self, conn: Connection<FileStore<File>>) -> Result<(), Error>
-        ensures { ⊤ }
-    {
-        conn.close()
+    fn close(&mut self, conn: Connection<S>) -> Result<(), Error> {
+        self.calls.close(conn)
     }
 }

@@ -1,8 +1,10 @@
 //! The program `prt`, over the files, streams and sockets of this machine.
 #![tactic(auto)]
 
+mod calls;
 mod machine;
 
+use calls::HostCalls;
 use machine::ThisMachine;
 use prt_host::{DatabaseFiles, run};
 use prt_program::Noting;
@@ -21,7 +23,13 @@ fn main(rt: HostRuntime) -> ExitCode {
             return ExitCode::from(report(&fault, &mut rt.stdout(), &mut rt.stderr()));
         }
     };
-    let mut databases = DatabaseFiles::new(ThisMachine { host: &rt }, &rt, rt);
+    let mut databases = DatabaseFiles::new(
+        ThisMachine {
+            calls: HostCalls { host: &rt },
+        },
+        &rt,
+        rt,
+    );
     let mut input = Noting::new(rt.stdin());
     let mut output = Noting::new(rt.stdout());
     let status = run(

@@ -4,6 +4,7 @@ mod atomic;
 mod desks;
 mod disks;
 mod each_call;
+mod lookers;
 mod migration;
 mod reopened;
 mod streams;

@@ -6,7 +6,11 @@ mod database;
 #[cfg(test)]
 mod failures;
 #[cfg(test)]
+mod faulty;
+#[cfg(test)]
 mod files;
+#[cfg(test)]
+mod one_command;
 #[cfg(test)]
 mod openings;
 mod reopening;

@@ -1,5 +1,5 @@
 -- The number of a published version.
-use Rattle.std.proofs.Common.{◌≡◌, ℕ, zero, suc, ◌+◌, ◌≤◌, Bool, true, false, List, [], ◌∷◌, ◌++◌, length, take, None, Result, Ok, Err, refl, ap, ◌∙◌, cond, arith}
+use Rattle.std.proofs.Common.{◌≡◌, ℕ, zero, suc, ◌+◌, ◌≤◌, Bool, true, false, List, [], ◌∷◌, ◌++◌, length, take, None, Result, Ok, Err, refl, ap, sym, ◌∙◌, cond, arith}
 use Rattle.std.proofs.lemmas.Bool.Decides.{nat_tests}
 use Rattle.std.specs.Prelude.{nat_lt}
 use Rattle.std.specs.Result.{result_err}
@@ -23,6 +23,15 @@ pub number_next : (line : Line) (commands : List Command) → IsAccepted line.ba
 number_next line commands accepted all =
     ap (λ (state : State). state.count) (fold_append line.base line.list commands)
     ∙ (count_fold (line_state line) commands all ∙ ap (λ n. n + length commands) (number_is line accepted))
+
+-- a stamp says by how much it is past what is shown
+pub counts_on : (now known shown : Line) (commands : List Command) (after before : ℕ) → known ≡ now → shown ≡ known → IsAccepted known.base known.list
+    → after ≡ now.base.count + length now.list + length commands → before ≡ (line_state shown).count → after ≡ before + length commands
+counts_on now known shown commands after before same is accepted stamped counted =
+    let number = number_is known accepted in
+    let was : before ≡ (line_state known).count = counted ∙ ap (λ (l : Line). (line_state l).count) is in
+    let will : after ≡ known.base.count + length known.list + length commands = stamped ∙ ap (λ (l : Line). l.base.count + length l.list + length commands) (sym same) in
+    omega (arith, number, was, will)
 
 -- ---- how many commands there can be
 

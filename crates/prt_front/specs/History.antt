@@ -5,6 +5,8 @@ use Rattle.prt_command.specs.declared.request.Command.{Command}
 use Rattle.prt_version.specs.Accepted.{IsAccepted}
 use Rattle.prt_version.specs.State.{State, opening_state}
 use Rattle.prt_front.specs.Line.{Line}
+use Rattle.prt_front.specs.declared.history.Batch.{Batch}
+use Rattle.prt_front.specs.declared.history.Batch.TheVariants.{One, Several}
 use Rattle.prt_front.specs.declared.history.Entry.{Entry}
 use Rattle.prt_front.specs.declared.history.Entry.TheVariants.{Accepted, Asked, Loaded}
 
@@ -30,6 +32,15 @@ abbrev pub asked_commands : Entry → List Command
 asked_commands (Asked commands) = commands.items
 asked_commands (Accepted command) = command ∷ []
 asked_commands (Loaded state) = []
+
+-- what the step of a publication asks for
+abbrev pub ask_of : Batch → Entry
+ask_of (One command) = Accepted command.value
+ask_of (Several commands) = Asked commands.value
+
+-- the commands of a publication
+abbrev pub commands_in : Batch → List Command
+commands_in batch = asked_commands (ask_of batch)
 
 abbrev pub line_of : Book → List Entry → Line
 line_of book log = record { book = book; base = base_of log; list = commands_of log }

@@ -1,12 +1,13 @@
 //! The writer of a front.
-ghost use Rattle.std.specs.Prelude.{◌≡◌, ◌+◌, ◌≤◌, [], All, length, IfErr, IfOk, MatchResult, OnOk};
+ghost use Rattle.std.specs.Prelude.{◌≡◌, ◌+◌, ◌≤◌, [], All, length, IfErr, IfOk, MatchResult, None, OnOk};
 ghost use Rattle.std.specs.Arc.{arc_value};
 ghost use Rattle.prt_version.specs.Accepted.{IsAccepted};
-ghost use Rattle.prt_version.specs.Change.{fold};
-ghost use Rattle.prt_front.specs.Line.{grown_by, line_state};
+ghost use Rattle.prt_version.specs.Change.{apply, fold, refusal};
+ghost use Rattle.prt_front.specs.History.{commands_in};
+ghost use Rattle.prt_front.specs.Line.{grown, grown_by, line_state};
 
 use crate::copies::{CopyWriter, show};
-use crate::history::Length;
+use crate::history::{Batch, Length};
 use crate::reader::{FrontReader, READERS, readers_of};
 use crate::shown::Shown;
 use crate::{Known, Told};
@@ -16,6 +17,7 @@ use prt_version::{Command, Refusal, Version};
 use std::alloc::Global;
 use std::marker::Model;
 use std::mem::ManuallyDrop;
+use std::snapshot::Snapshot;
 use std::sync::{Arc, Wait};
 
 /// The writer of a front. Contracts see it as the published list.
@@ -113,6 +115,28 @@ impl Front {
         self.known.again()
     }
 
+    /// Publishes a version in one swap: the one after the published one by this command, whose commit gave the stamp.
+    /// It waits for readers that are inside the other copy. Returns the list that is published then, to be reported to
+    /// readers.
+    ///
+    /// Err(NotPublished) if the swap is refused; then readers go on with the version that they had.
+    pub fn publish<W: Wait>(
+        &mut self,
+        rt: &W,
+        stamp: Stamp,
+        command: Snapshot<Command>,
+        version: Arc<Version>,
+    ) -> Result<Told, Refusal>
+        requires stamp { stamp.number ≡ self.old.base.count + length self.old.list + 1 }
+        requires accepted { refusal (line_state self.old) command.value ≡ None }
+        requires next { arc_value version ≡ apply (line_state self.old) command.value }
+        ensures list { MatchResult result (λ told. (self.new ≡ grown self.old command.value) × (told ≡ self.new)) (λ _. self.new ≡ self.old) }
+        ensures accepted { OnOk result (IsAccepted self.new.base self.new.list) }
+        ensures reason { IfErr result (λ reason. reason ≡ Refusal.NotPublished) }
+    {
+        self.publish_batch(rt, stamp, Batch::One(command), version)
+    }
+
     /// Publishes a version in one swap: the one after the published one by these commands, whose commit gave the stamp.
     /// It waits for readers that are inside the other copy. Returns the list that is published then, to be reported to
     /// readers.
@@ -122,19 +146,42 @@ impl Front {
         &mut self,
         rt: &W,
         stamp: Stamp,
-        commands: &Vec<Command>,
+        commands: Snapshot<Vec<Command>>,
         version: Arc<Version>,
     ) -> Result<Told, Refusal>
-        requires some { 1 ≤ length commands.now.items }
-        requires stamp { stamp.number ≡ self.old.base.count + length self.old.list + length commands.now.items }
-        requires accepted { IsAccepted (line_state self.old) commands.now.items }
-        requires next { arc_value version ≡ fold (line_state self.old) commands.now.items }
-        ensures list { MatchResult result (λ told. (self.new ≡ grown_by self.old commands.now.items) × (told ≡ self.new)) (λ _. self.new ≡ self.old) }
+        requires some { 1 ≤ length commands.value.items }
+        requires stamp { stamp.number ≡ self.old.base.count + length self.old.list + length commands.value.items }
+        requires accepted { IsAccepted (line_state self.old) commands.value.items }
+        requires next { arc_value version ≡ fold (line_state self.old) commands.value.items }
+        ensures list { MatchResult result (λ told. (self.new ≡ grown_by self.old commands.value.items) × (told ≡ self.new)) (λ _. self.new ≡ self.old) }
         ensures accepted { OnOk result (IsAccepted self.new.base self.new.list) }
         ensures reason { IfErr result (λ reason. reason ≡ Refusal.NotPublished) }
     {
+        self.publish_batch(rt, stamp, Batch::Several(commands), version)
+    }
+
+    /// Publishes the version after a batch, whose commit gave the stamp, as `publish_all` does.
+    fn publish_batch<W: Wait>(
+        &mut self,
+        rt: &W,
+        stamp: Stamp,
+        batch: Batch,
+        version: Arc<Version>,
+    ) -> Result<Told, Refusal>
+        requires stamp { stamp.number ≡ self.old.base.count + length self.old.list + length (commands_in batch) }
+        requires accepted { IsAccepted (line_state self.old) (commands_in batch) }
+        requires next { arc_value version ≡ fold (line_state self.old) (commands_in batch) }
+        ensures list { MatchResult result (λ told. (self.new ≡ grown_by self.old (commands_in batch)) × (told ≡ self.new)) (λ _. self.new ≡ self.old) }
+        ensures accepted { OnOk result (IsAccepted self.new.base self.new.list) }
+        ensures reason { IfErr result (λ reason. reason ≡ Refusal.NotPublished) }
+    {
+        // Recalls that the published commands were accepted one after the other, by which their number is known.
+        let published = self.known.again();
+        let before = self.writer.published().number();
+        let after = stamp.number();
+        let added = after - before;
         drop(stamp);
-        let Some(next) = self.known.accept(&self.word, commands) else {
+        let Some(next) = published.accept(&self.word, &batch, added) else {
             return Err(Refusal::NotPublished);
         };
         let shown = Shown::new(version, next.again());

@@ -35,6 +35,15 @@ impl Rule<Entry, u64> for HistoryRule {
     ghost moves = { λ ask before after answer. Unit {0} };
 }
 
+/// The commands of one publication. They have no bytes, and contracts alone see them.
+#[derive(Drop)]
+pub(crate) enum Batch {
+    /// A command by itself.
+    One(Snapshot<Command>),
+    /// Commands that are published together.
+    Several(Snapshot<Vec<Command>>),
+}
+
 /// A step hands nothing over.
 pub struct NoGain;
 
@@ -63,13 +72,13 @@ impl Play<Entry, u64> for Add {
     ghost then = { Adds };
 }
 
-impl Plain<Snapshot<Vec<Command>>, Entry, u64> for Add {
+impl Plain<Batch, Entry, u64> for Add {
     ghost use Rattle.std.specs.Prelude.{None};
-    ghost use Rattle.prt_front.specs.declared.history.Entry.TheVariants.{Asked};
+    ghost use Rattle.prt_front.specs.History.{ask_of};
 
-    ghost ask = { λ commands. Asked commands.value };
+    ghost ask = { ask_of };
 
-    ghost state = { λ commands. None };
+    ghost state = { λ batch. None };
 }
 
 /// The length of a history, which its writer has.

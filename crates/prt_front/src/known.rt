@@ -1,14 +1,13 @@
 //! Tokens of what is known of the published list.
 ghost use Rattle.std.specs.Prelude.{◌≡◌, [], length, IfSome, MatchBool};
 ghost use Rattle.prt_version.specs.Accepted.{IsAccepted};
-ghost use Rattle.prt_front.specs.History.{length_of};
+ghost use Rattle.prt_front.specs.History.{commands_in, length_of};
 ghost use Rattle.prt_front.specs.Line.{Begins, grown_by, line_state};
 
-use crate::history::{Add, Entry, HistoryRule, Length, Load, NoGain};
+use crate::history::{Add, Batch, Entry, HistoryRule, Length, Load, NoGain};
 use logbook::{Offer, Seen, Start};
-use prt_version::{Command, Version};
+use prt_version::Version;
 use std::marker::Model;
-use std::snapshot::Snapshot;
 
 /// A prefix of the published list. Contracts see it as a line; of its list it keeps the length alone.
 #[derive(Drop)]
@@ -71,23 +70,21 @@ impl Known {
         self.count <= other.count
     }
 
-    /// Adds commands to the history of which this is all. `None` if the history has another command there, and then it
-    /// stays as it was.
-    pub(crate) fn accept(&self, word: &Length, commands: &Vec<Command>) -> Option<Known>
+    /// Adds commands, as many as are named, to the history of which this is all. `None` if the history has another
+    /// command there, and then it stays as it was.
+    pub(crate) fn accept(&self, word: &Length, batch: &Batch, added: u64) -> Option<Known>
         requires word { word.now ≡ length_of self.now.book }
-        requires accepted { IsAccepted (line_state self.now) commands.now.items }
-        ensures { IfSome result (λ k. k ≡ grown_by self.now commands.now.items) }
+        requires added { added ≡ length (commands_in batch.now) }
+        requires accepted { IsAccepted (line_state self.now) (commands_in batch.now) }
+        ensures { IfSome result (λ k. k ≡ grown_by self.now (commands_in batch.now)) }
     {
-        let asked = Snapshot::of(commands);
         let mut seen = self.seen.again();
-        let mut offer: Offer<Entry, u64, HistoryRule, NoGain> = seen.plain::<
-            NoGain,
-            Snapshot<Vec<Command>>,
-            Add,
-        >(&asked);
+        let mut offer: Offer<Entry, u64, HistoryRule, NoGain> = seen.plain::<NoGain, Batch, Add>(
+            batch,
+        );
         let mut pen = seen.no_pen();
         let count = self.count;
-        let count_after = count + commands.as_slice().len() as u64;
+        let count_after = count + added;
         let found = word.compare_exchange::<Add, NoGain>(
             count,
             count_after,

@@ -16,5 +16,7 @@ mod told;
 
 pub use front::Front;
 pub use known::Known;
+pub use prt_store::Stamp;
+pub use prt_version::{Command, Refusal, Version};
 pub use reader::{FrontReader, READERS};
 pub use told::Told;

@@ -44,6 +44,13 @@ impl Shown {
         &self.known
     }
 
+    /// Returns the number of the version.
+    pub(crate) fn number(&self) -> u64
+        ensures { result ≡ (line_state self.now).count }
+    {
+        self.version.number()
+    }
+
     /// Returns one more owner of the version. `Err` if an `Arc` can count no more.
     pub(crate) fn version(&self) -> Result<Arc<Version>, AllocError>
         ensures { IfOk result (λ version. arc_value version ≡ line_state self.now) }

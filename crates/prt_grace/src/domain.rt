@@ -2,7 +2,7 @@
 ghost use Rattle.std.specs.Prelude.{◌≡◌, ◌≤◌, ◌<◌, Some, None, IfSome, IsSome};
 ghost use Rattle.std.specs.Arc.{arc_value};
 
-use crate::{Keeper, Place, Registry, Retention, Version};
+use crate::{Keeper, LockedRegistry, Place, Registry, Retention, Version};
 use std::sync::{Arc, Mutex, MutexGuard, Wait};
 
 /// A registry under a lock, shared by lookers and the publisher. Each call takes the lock once, for the registry's call
@@ -12,7 +12,7 @@ use std::sync::{Arc, Mutex, MutexGuard, Wait};
 /// not hold, the registry stays as it was.
 #[derive(Drop)]
 pub struct Domain {
-    registry: Mutex<Registry>,
+    registry: Mutex<LockedRegistry>,
 }
 
 impl Domain {
@@ -21,12 +21,14 @@ impl Domain {
         ensures { result.1.noted ≡ (arc_value version).count }
     {
         let noted = version.number();
-        let registry = Mutex::new(Registry::new(version));
+        let registry = Mutex::new(LockedRegistry {
+            registry: Registry::new(version),
+        });
         (Domain { registry }, Keeper { noted })
     }
 
-    /// Locks the registry, until the guard goes.
-    pub fn lock<'a, H: Wait>(&'a self, rt: &H) -> MutexGuard<'a, Registry> {
+    /// Locks the registry, until the guard goes. Its holder can reclaim, and note a version if it has the keeper.
+    pub fn lock<'a, H: Wait>(&'a self, rt: &H) -> MutexGuard<'a, LockedRegistry> {
         self.registry.lock(rt)
     }
 
@@ -34,14 +36,14 @@ impl Domain {
     pub fn join<H: Wait>(&self, rt: &H) -> Option<Place>
         ensures { IfSome result (λ place. place.announced ≡ None) }
     {
-        self.lock(rt).join()
+        self.lock(rt).registry.join()
     }
 
     /// Frees the place of a looker, with what it has announced. A place of another registry frees none here.
     pub fn part<H: Wait>(&self, rt: &H, place: Place) {
-        let mut registry = self.lock(rt);
-        if registry.has(&place) {
-            registry.part(place);
+        let mut locked = self.lock(rt);
+        if locked.registry.has(&place) {
+            locked.registry.part(place);
         }
     }
 
@@ -51,11 +53,11 @@ impl Domain {
         ensures place { place.new ≡ record place.old { announced = Some result } }
         ensures kept { IfSome place.old.announced (λ number. result ≡ number) }
     {
-        let mut registry = self.lock(rt);
-        if registry.has(place) {
-            return registry.online(place);
+        let mut locked = self.lock(rt);
+        if locked.registry.has(place) {
+            return locked.registry.online(place);
         }
-        let number = place.announced().unwrap_or(registry.noted());
+        let number = place.announced().unwrap_or(locked.registry.noted());
         place.announced = Some(number);
         number
     }
@@ -67,9 +69,9 @@ impl Domain {
         requires later { IfSome place.old.announced (λ before. before ≤ number) }
         ensures { place.new ≡ record place.old { announced = Some number } }
     {
-        let mut registry = self.lock(rt);
-        if registry.has(place) {
-            registry.announce(place, number);
+        let mut locked = self.lock(rt);
+        if locked.registry.has(place) {
+            locked.registry.announce(place, number);
         } else {
             place.announced = Some(number);
         }
@@ -79,9 +81,9 @@ impl Domain {
     pub fn offline<H: Wait>(&self, rt: &H, place: &mut Place)
         ensures { place.new ≡ record place.old { announced = None } }
     {
-        let mut registry = self.lock(rt);
-        if registry.has(place) {
-            registry.offline(place);
+        let mut locked = self.lock(rt);
+        if locked.registry.has(place) {
+            locked.registry.offline(place);
         } else {
             place.announced = None;
         }
@@ -89,7 +91,7 @@ impl Domain {
 
     /// Checks whether one more version can be retired.
     pub fn has_room<H: Wait>(&self, rt: &H) -> bool {
-        self.lock(rt).has_room()
+        self.lock(rt).registry.has_room()
     }
 
     /// Notes a version, and retires the one that was noted before. If there is no room, or a later version is noted,
@@ -103,11 +105,11 @@ impl Domain {
 
     /// Returns how many versions are retired, and which looker holds them back. It gives up none.
     pub fn retention<H: Wait>(&self, rt: &H) -> Retention {
-        self.lock(rt).retention()
+        self.lock(rt).registry.retention()
     }
 
     /// Gives up each retired version that no looker can hold any more. Returns how many went.
     pub fn reclaim<H: Wait>(&self, rt: &H) -> usize {
-        self.lock(rt).reclaim()
+        self.lock(rt).registry.reclaim()
     }
 }

@@ -3,7 +3,7 @@ ghost use Rattle.std.specs.Prelude.{◌≡◌, ◌<◌};
 ghost use Rattle.std.specs.Arc.{arc_value};
 ghost use Rattle.prt_grace.specs.Registry.{noted_by};
 
-use crate::{Registry, Version};
+use crate::{LockedRegistry, Version};
 use std::sync::Arc;
 
 /// The right to note versions, of which a domain has one. Only [`Domain::new`] makes one.
@@ -23,12 +23,12 @@ impl Keeper {
     }
 
     /// Notes a version in the locked registry. If this has no room, or has noted a later version, it stays as it was.
-    pub fn note(&mut self, registry: &mut Registry, version: Arc<Version>)
+    pub fn note(&mut self, registry: &mut LockedRegistry, version: Arc<Version>)
         requires { self.old.noted < (arc_value version).count }
         ensures keeper { self.new.noted ≡ (arc_value version).count }
         ensures registry { registry.new ≡ noted_by registry.old (arc_value version) }
     {
         self.noted = version.number();
-        registry.note_later(version);
+        registry.registry.note_later(version);
     }
 }

@@ -3,6 +3,7 @@ use Rattle.std.proofs.Common.{◌≡◌, ◌≢◌, ◌⊎◌, inl, inr, ℕ, Li
 use Rattle.sqlite.specs.Held.{Held, state}
 use Rattle.sqlite.specs.State.{HasCleanDisk}
 use Rattle.sqlite.specs.Store.{Ghosts}
+use Rattle.prt_addr.specs.Word.{Word}
 use Rattle.prt_refusals.specs.declared.refusal.Refusal.{Refusal}
 use Rattle.prt_desk.proofs.Kept.{durable_is, shows}
 use Rattle.prt_desk.specs.StoreDesk.{IsKept, MayBeStored, desk_with}
@@ -15,28 +16,47 @@ use Rattle.prt_store.proofs.Spelled.{stored_there}
 use Rattle.prt_store.specs.Exits.{IsKnown, Spells}
 use Rattle.prt_version.specs.State.{State}
 use Rattle.prt_words.specs.Invocation.{Invocation}
-use Rattle.prt_words.specs.CommandLine.{IsServing}
+use Rattle.prt_words.specs.Read.{IsServiceIn}
+use Rattle.prt_words.specs.Tasks.{IsServing}
 use Rattle.prt_words.specs.declared.fault.Fault.{Fault}
 use Rattle.prt_words.specs.declared.fault.TheConstants.{DONE, FAULT}
 use Rattle.prt_words.specs.declared.serving.Serving.{Serving}
 use Rattle.prt_questions.specs.Closing.{LeavesNoneOpen}
-use Rattle.prt_host.specs.Runs.{AskedIsFound, Asks, FindsAgain, RunBegins, RunIsFound, RunsPrt, Serves, ServiceIsFound}
-use Rattle.prt_host.specs.Serving.{IsNotServed, IsServed}
+use Rattle.prt_host.specs.Runs.{AskedIsFound, Asks, FindsAgain, RunBegins, RunIsFound, RunsPrt, Serves, ServiceIsFound, is_misused, is_stopped, runs, tells}
+use Rattle.prt_host.specs.Serving.{IsNotServed, IsServed, IsServedBy}
+use Rattle.prt_questions.specs.Sources.{Sources}
+use Rattle.prt_questions.specs.declared.machine.Wanted.{Wanted}
+use Rattle.prt_questions.specs.declared.machine.Wanted.TheVariants.{Any}
 use Rattle.prt_questions.proofs.Alone.{RunsRound, runs_alone, runs_nothing_alone}
 
 -- ---- how a run ends
 
-module _ {D M S : Type 0} (g : Ghosts S) (opens : M → M → List ℕ → Held S → Type 0) (closes : M → M → Held S → Type 0) (old new : D) (machine : D → M) where
-  pub exit_alone : (refuses : M → M → List ℕ → Type 0) {File : Type 0} (bytes : File → Option (List ℕ)) (asked : Invocation) (streams : Streams) (status : ℕ)
-      → Runs bytes (RunsRound g opens closes old new machine) asked streams status ⊎ RunsNothing (λ (old new : D) path reason. LeavesNoneOpen opens refuses closes g reason (machine old) (machine new) path) old new asked streams.output_before streams.output_after status
-      → LeavesDatabases asked old new → RunsPrt g opens refuses closes (machine old) (machine new) bytes asked streams status
-  exit_alone refuses bytes asked streams status (inl ran) left = record { outcome = inl (runs_alone g opens closes old new machine bytes asked streams status ran, λ none. ap machine (left none)) }
-  exit_alone refuses bytes asked streams status (inr nothing) left = record { outcome = inr (inl (runs_nothing_alone g opens closes old new machine (λ old new path reason. LeavesNoneOpen opens refuses closes g reason old new path) asked streams.output_before streams.output_after status nothing)) }
+module _ {D M S : Type 0} (g : Ghosts S) (opens : Wanted → M → M → List ℕ → Held S → Type 0) (closes : M → M → Held S → Type 0) (old new : D) (machine : D → M) where
+  pub exit_alone : (refuses : Wanted → M → M → List ℕ → Type 0) {File : Type 0} (bytes : File → Option (List ℕ)) (from : Sources) (asked : Invocation) (streams : Streams) (status : ℕ)
+      → Runs bytes (RunsRound g (opens Any) closes old new machine) asked streams status ⊎ RunsNothing (λ (old new : D) path reason. LeavesNoneOpen (opens Any) (refuses Any) closes g reason (machine old) (machine new) path) old new asked streams.output_before streams.output_after status
+      → LeavesDatabases asked old new → RunsPrt g opens refuses closes (machine old) (machine new) bytes from asked streams status
+  exit_alone refuses bytes from asked streams status (inl ran) left = runs (runs_alone g (opens Any) closes old new machine bytes asked streams status ran) (λ none. ap machine (left none))
+  exit_alone refuses bytes from asked streams status (inr nothing) left =
+      go (runs_nothing_alone g (opens Any) closes old new machine (λ old new path reason. LeavesNoneOpen (opens Any) (refuses Any) closes g reason old new path) asked streams.output_before streams.output_after status nothing)
+    where
+      go : RunsNothing (λ (old new : M) path reason. LeavesNoneOpen (opens Any) (refuses Any) closes g reason old new path) (machine old) (machine new) asked streams.output_before streams.output_after status
+          → RunsPrt g opens refuses closes (machine old) (machine new) bytes from asked streams status
+      go (inl told) = tells told
+      go (inr (inl misused)) = is_misused misused
+      go (inr (inr stopped)) = is_stopped stopped
 
 -- ---- what stays
 
 pub same_at : {D M : Type 0} (old new : D) (machine : D → M) → new ≡ old → machine new ≡ machine old
 same_at old new machine same = ap machine same
+
+-- a question was answered from what it was handed, which is what the program was
+pub asks_from : {D M S : Type 0} (g : Ghosts S) (opens : Wanted → M → M → List ℕ → Held S → Type 0) (refuses : Wanted → M → M → List ℕ → Type 0) (closes : M → M → Held S → Type 0) (old new : M) (words : List Word)
+    (before after : D) → after ≡ before → (input0 input : Option (List ℕ)) → input ≡ input0 → (from : D → Option (List ℕ) → Sources) (writer0 writer : Option (List ℕ)) (status : ℕ)
+    → Asks g opens refuses closes old new words (from after input) writer0 writer status → Asks g opens refuses closes old new words (from before input0) writer0 writer status
+asks_from {D} g opens refuses closes old new words before after same input0 input unread from writer0 writer status ended =
+    subst (λ (d : D). Asks g opens refuses closes old new words (from d input0) writer0 writer status) same
+    (subst (λ (i : Option (List ℕ)). Asks g opens refuses closes old new words (from after i) writer0 writer status) unread ended)
 
 -- ---- a server that ended with a fault
 
@@ -45,22 +65,23 @@ pub not_served : {M S : Type 0} (g : Ghosts S) (opens : M → M → List ℕ →
 not_served g opens refuses closes old new path fault (inl none) = inl (none.0, none.2)
 not_served g opens refuses closes old new path fault (inr served) = inr served.0
 
-module _ {M S : Type 0} (g : Ghosts S) (opens : M → M → List ℕ → Held S → Type 0) (refuses : M → M → List ℕ → Type 0) (closes : M → M → Held S → Type 0) (mid old new : M) (same : mid ≡ old) where
+module _ {M S : Type 0} (g : Ghosts S) (opens : Wanted → M → M → List ℕ → Held S → Type 0) (refuses : Wanted → M → M → List ℕ → Type 0) (closes : M → M → Held S → Type 0) (mid old new : M) (same : mid ≡ old) where
   -- what was done after the words were read was done from the start on, since no database was touched before
-  pub serves : (serving : Serving) (status : ℕ) → IsServing serving → (status ≡ DONE → IsServed opens closes g mid new serving.database.now) → (status ≢ DONE → status ≡ FAULT)
-      → (status ≢ DONE → (fault : Fault) × IsNotServed opens refuses closes g mid new serving.database.now fault) → Serves g opens refuses closes old new status
-  serves serving status limits done fault why =
-      let ended : Serves g opens refuses closes mid new status = record {
+  pub has_served : (words : List Word) (serving : Serving) (status : ℕ) → IsServiceIn words serving → IsServing serving → (status ≡ DONE → IsServedBy (opens Any) closes g serving.workers mid new serving.database.now) → (status ≢ DONE → status ≡ FAULT)
+      → (status ≢ DONE → (fault : Fault) × IsNotServed (opens Any) (refuses Any) closes g mid new serving.database.now fault) → Serves g opens refuses closes old new words status
+  has_served words serving status named limits done fault why =
+      let ended : Serves g opens refuses closes mid new words status = record {
         serving = serving;
+        named = named;
         limits = limits;
         done = done;
-        why = λ not_done. (fault not_done, not_served g opens refuses closes mid new serving.database.now (why not_done).0 (why not_done).1);
+        why = λ not_done. (fault not_done, not_served g (opens Any) (refuses Any) closes mid new serving.database.now (why not_done).0 (why not_done).1);
       } in
-      subst (λ (m : M). Serves g opens refuses closes m new status) same ended
+      subst (λ (m : M). Serves g opens refuses closes m new words status) same ended
 
-  pub asks : (writer_mid writer0 writer : Option (List ℕ)) → writer_mid ≡ writer0 → (status : ℕ) → Asks g opens refuses closes mid new writer_mid writer status → Asks g opens refuses closes old new writer0 writer status
-  asks writer_mid writer0 writer unwritten status ended =
-      subst (λ (m : M). Asks g opens refuses closes m new writer0 writer status) same (subst (λ (w : Option (List ℕ)). Asks g opens refuses closes mid new w writer status) unwritten ended)
+  pub has_answered : (words : List Word) (from : Sources) (writer_mid writer0 writer : Option (List ℕ)) → writer_mid ≡ writer0 → (status : ℕ) → Asks g opens refuses closes mid new words from writer_mid writer status → Asks g opens refuses closes old new words from writer0 writer status
+  has_answered words from writer_mid writer0 writer unwritten status ended =
+      subst (λ (m : M). Asks g opens refuses closes m new words from writer0 writer status) same (subst (λ (w : Option (List ℕ)). Asks g opens refuses closes mid new words from w writer status) unwritten ended)
 
 -- ---- an opening after it
 
@@ -81,7 +102,7 @@ module _ {S : Type 0} (g : Ghosts S) where
 
   pub service_is_found : ServiceIsFound g
   service_is_found first last served opened known found =
-      let end = served.released in
+      let end = served.left.released in
       let known_then : IsKnown g end.last.ours_first end.last.tables = (end.named.2 ∙ known.0, subst (λ (t : Held S). HasCleanDisk (state g t)) (sym end.its) known.1) in
       found_stored end.last (end.quiet, end.stands) known_then opened (subst (λ (t : Held S). FindsAgain g t opened) (sym end.its) found)
 

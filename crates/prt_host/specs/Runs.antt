@@ -7,12 +7,13 @@ use Rattle.prt_addr.specs.Word.{Word}
 use Rattle.prt_refusals.specs.declared.refusal.Refusal.{Refusal}
 use Rattle.prt_desk.specs.Files.{IsWhatWasLeft}
 use Rattle.prt_desk.specs.StoreDesk.{IsStoreMishap, MayBeStored}
-use Rattle.prt_program.specs.Program.{LeavesDatabases, Runs, RunsNothing, SessionLeaves, Streams}
+use Rattle.prt_program.specs.Program.{IsMisused, IsStopped, LeavesDatabases, Runs, SessionLeaves, Streams, Tells}
 use Rattle.prt_publisher.specs.Openings.{HasOpened}
 use Rattle.prt_rows.specs.Format.{BeginsFormat2}
 use Rattle.prt_store.specs.Exits.{IsKnown}
 use Rattle.prt_version.specs.State.{State}
-use Rattle.prt_words.specs.CommandLine.{IsServing}
+use Rattle.prt_words.specs.Read.{IsQuestionIn, IsServiceIn}
+use Rattle.prt_words.specs.Tasks.{IsServing}
 use Rattle.prt_words.specs.Invocation.{Invocation, ask, serve}
 use Rattle.prt_words.specs.declared.fault.TheConstants.{DONE, FAULT}
 use Rattle.prt_words.specs.declared.asking.Asked.{Asked}
@@ -21,33 +22,46 @@ use Rattle.prt_words.specs.declared.task.Mode.{Mode}
 use Rattle.prt_questions.specs.Closing.{LeavesNoneOpen}
 use Rattle.prt_questions.specs.Done.{IsDone, IsDoneAtMost, IsFound}
 use Rattle.prt_questions.specs.Sessions.{RunsOverMachine}
-use Rattle.prt_host.specs.Serving.{HasServed, IsServed}
+use Rattle.prt_questions.specs.Sources.{Sources}
+use Rattle.prt_questions.specs.declared.machine.Wanted.{Wanted}
+use Rattle.prt_questions.specs.declared.machine.Wanted.TheVariants.{Any}
+use Rattle.prt_host.specs.Serving.{HasServed, IsServed, IsServedBy}
 use Rattle.prt_questions.specs.declared.asking.TheConstants.{REFUSED}
 use Rattle.prt_questions.specs.declared.asserting.TheConstants.{UNREADABLE}
 use Rattle.prt_questions.specs.declared.status.TheConstants.{CLOSED}
 
-module _ {M S : Type 0} (g : Ghosts S) (opens : M → M → List ℕ → Held S → Type 0) (refuses : M → M → List ℕ → Type 0) (closes : M → M → Held S → Type 0) (old new : M) where
-  -- The database at a path was opened, served and closed; or it was refused, and no other was touched. This is the exit status.
-  pub record Serves (status : ℕ) : Type 0 where
+module _ {M S : Type 0} (g : Ghosts S) (opens : Wanted → M → M → List ℕ → Held S → Type 0) (refuses : Wanted → M → M → List ℕ → Type 0) (closes : M → M → Held S → Type 0) (old new : M) where
+  -- The database at a path was opened, served and closed; or it was refused, and no other was touched. This is the exit status. If it says that all is well, what was left has each command that a worker replied `ok N` to, at the number N.
+  pub record Serves (words : List Word) (status : ℕ) : Type 0 where
     pub serving : Serving
+    pub named : IsServiceIn words serving
     pub limits : IsServing serving
-    pub done : status ≡ DONE → IsServed opens closes g old new serving.database.now
-    pub why : status ≢ DONE → (status ≡ FAULT) × (((reason : Refusal) × LeavesNoneOpen opens refuses closes g reason old new serving.database.now) ⊎ IsServed opens closes g old new serving.database.now)
+    pub done : status ≡ DONE → IsServedBy (opens Any) closes g serving.workers old new serving.database.now
+    pub why : status ≢ DONE → (status ≡ FAULT) × (((reason : Refusal) × LeavesNoneOpen (opens Any) (refuses Any) closes g reason old new serving.database.now) ⊎ IsServed (opens Any) closes g old new serving.database.now)
 
-  -- A question was answered, in part at most, or to its end. This is the exit status.
-  pub record Asks (writer0 writer : Option (List ℕ)) (status : ℕ) : Type 0 where
+  -- The question that the words ask was answered from these sources, in part at most, or to its end. This is the exit status.
+  pub record Asks (words : List Word) (from : Sources) (writer0 writer : Option (List ℕ)) (status : ℕ) : Type 0 where
     pub question : Asked
+    pub named : IsQuestionIn words question
     pub status_is : (status ≡ DONE) ⊎ ((status ≡ REFUSED) ⊎ ((status ≡ UNREADABLE) ⊎ ((status ≡ CLOSED) ⊎ (status ≡ FAULT))))
-    pub whole : status ≡ DONE → IsDone g opens refuses closes old new writer0 writer question
-    pub found : status ≡ REFUSED → IsFound g opens refuses closes old new writer0 writer question
-    pub at_most : IsDoneAtMost g opens refuses closes old new writer0 writer question
+    pub whole : status ≡ DONE → IsDone g opens refuses closes from old new writer0 writer question
+    pub found : status ≡ REFUSED → IsFound g opens refuses closes from old new writer0 writer question
+    pub at_most : IsDoneAtMost g opens refuses closes from old new writer0 writer question
 
-  -- What becomes of a run, with its exit status. A script, a check or a replay was run, and no database was touched if none was asked for. Or nothing was run. Or sessions were served, or a question was answered, as the words ask.
-  pub record RunsPrt {File : Type 0} (bytes : File → Option (List ℕ)) (asked : Invocation) (streams : Streams) (status : ℕ) : Type 0 where
-    pub outcome :
-        (Runs bytes (RunsOverMachine g opens closes old new) asked streams status × LeavesDatabases asked old new)
-        ⊎ (RunsNothing (λ old new path reason. LeavesNoneOpen opens refuses closes g reason old new path) old new asked streams.output_before streams.output_after status
-        ⊎ (((asked ≡ serve) × Serves status) ⊎ ((asked ≡ ask) × Asks streams.output_before streams.output_after status)))
+  -- What becomes of a run that is asked for, with its exit status.
+  pub data RunsPrt {File : Type 0} (bytes : File → Option (List ℕ)) (from : Sources) (asked : Invocation) (streams : Streams) (status : ℕ) : Type 0 where
+    -- a script, a check or a replay was run, and no database was touched if none was asked for
+    runs : Runs bytes (RunsOverMachine g (opens Any) closes old new) asked streams status → LeavesDatabases asked old new → RunsPrt bytes from asked streams status
+    -- help or the version was asked for
+    tells : Tells old new asked status → RunsPrt bytes from asked streams status
+    -- the words are bad
+    is_misused : IsMisused old new asked streams.output_before streams.output_after status → RunsPrt bytes from asked streams status
+    -- memory was refused, or a file or a database could not be opened
+    is_stopped : IsStopped (λ old new path reason. LeavesNoneOpen (opens Any) (refuses Any) closes g reason old new path) old new asked streams.output_before streams.output_after status → RunsPrt bytes from asked streams status
+    -- the sessions were served that the words ask for
+    serves : (words : List Word) → asked ≡ serve words → Serves words status → RunsPrt bytes from asked streams status
+    -- the question was answered that the words ask
+    answers : (words : List Word) → asked ≡ ask words → Asks words from streams.output_before streams.output_after status → RunsPrt bytes from asked streams status
 
 -- ---- an opening after it
 
@@ -74,7 +88,7 @@ RunIsFound {M} {S} g opens closes =
 
 -- after serving it makes one that the publisher may have stored at its end
 abbrev pub ServiceIsFound : {S : Type 0} → Ghosts S → Type 0
-ServiceIsFound {S} g = (first last : Held S) (served : HasServed g first last) (opened : State) → IsKnown g served.begun.ours_first last → FindsAgain g last opened → MayBeStored g served.released.last opened
+ServiceIsFound {S} g = (first last : Held S) (served : HasServed g first last) (opened : State) → IsKnown g served.begun.ours_first last → FindsAgain g last opened → MayBeStored g served.left.released.last opened
 
 -- after a question it makes the one that was queried
 abbrev pub AskedIsFound : {S : Type 0} → Ghosts S → Type 0

@@ -1,15 +1,19 @@
 -- Why a server ends with a fault.
-use Rattle.std.specs.Prelude.{◌≡◌, ◌⊎◌, ◌||◌, ℕ, Bool, true, false, if◌then◌else◌, List, Option, Some, None}
+use Rattle.std.specs.Prelude.{◌≡◌, ◌⊎◌, ◌||◌, ℕ, All, Bool, true, false, if◌then◌else◌, List, Option, Some, None, length}
+use Rattle.logbook.specs.Pages.{Book}
 use Rattle.sqlite.specs.Held.{Held}
 use Rattle.sqlite.specs.Store.{Ghosts}
 use Rattle.prt_refusals.specs.declared.refusal.Refusal.{Refusal}
+use Rattle.prt_front.specs.Line.{Line}
 use Rattle.prt_publisher.specs.Openings.{OpensOne}
 use Rattle.prt_publisher.specs.Standing.{Standing}
 use Rattle.prt_questions.specs.Closing.{IsClosedAgain, LeavesNoneOpen}
+use Rattle.prt_serve.specs.Kept.{Keeps, Work}
 use Rattle.prt_serve.specs.declared.listen.Accepting.{Accepting}
 use Rattle.prt_serve.specs.declared.listen.Accepting.TheVariants.{Failed, NoWorkers}
 use Rattle.prt_serve.specs.declared.listen.ServeEnd.{ServeEnd}
 use Rattle.prt_service.specs.Named.{IsReleased}
+use Rattle.prt_version.specs.State.{State}
 use Rattle.prt_words.specs.declared.fault.Fault.{Fault}
 use Rattle.prt_words.specs.declared.fault.Fault.TheVariants.{Listener, Opening}
 
@@ -47,15 +51,30 @@ IsNotOpened opens refuses closes g old new path fault = (reason : Refusal) × (f
 abbrev pub IsFaultOfServing : Fault → Type 0
 IsFaultOfServing fault = (fault ≡ Listener) ⊎ ((end : ServeEnd) × (fault_of end ≡ Some fault))
 
--- A publisher was opened, and its service left these tables at its end. It had begun with the state that was opened.
+-- A service left these tables at its end: they stand for the list that it had published, and the list keeps these shifts of its workers.
+pub record IsLeft {S : Type 0} (g : Ghosts S) (book : Book) (base : State) (ours_first : Bool) (shifts : List Work) (tables : Held S) : Type 0 where
+  pub published : Line
+  pub released : IsReleased g book base ours_first published tables
+  pub kept : All (Keeps published) shifts
+
+-- A publisher was opened, and its service left these tables at its end. It had begun with the state that was opened. What its workers replied `ok` in these shifts is kept.
 pub record HasServed {S : Type 0} (g : Ghosts S) (first last : Held S) : Type 0 where
   pub begun : Standing (Held S)
   pub opens : OpensOne g (λ was. was ≡ first) begun
-  pub released : IsReleased g begun.line.book begun.line.base begun.ours_first last
+  pub shifts : List Work
+  pub left : IsLeft g begun.line.book begun.line.base begun.ours_first shifts last
+
+-- the shifts are those of so many workers
+abbrev pub HasServedBy : {S : Type 0} → Ghosts S → ℕ → Held S → Held S → Type 0
+HasServedBy g workers first last = (served : HasServed g first last) × (length served.shifts ≡ workers)
 
 -- the database was opened, and is closed again as its service left it
 abbrev pub IsServed : {M S : Type 0} → (M → M → List ℕ → Held S → Type 0) → (M → M → Held S → Type 0) → Ghosts S → M → M → List ℕ → Type 0
 IsServed opens closes g old new path = IsClosedAgain opens closes (HasServed g) old new path
+
+-- so it is, and what each of so many workers replied `ok` is kept
+abbrev pub IsServedBy : {M S : Type 0} → (M → M → List ℕ → Held S → Type 0) → (M → M → Held S → Type 0) → Ghosts S → ℕ → M → M → List ℕ → Type 0
+IsServedBy opens closes g workers old new path = IsClosedAgain opens closes (HasServedBy g workers) old new path
 
 -- the server ended with a fault: of the opening, or of serving, and the database is closed
 abbrev pub IsNotServed : {M S : Type 0} → (M → M → List ℕ → Held S → Type 0) → (M → M → List ℕ → Type 0) → (M → M → Held S → Type 0) → Ghosts S → M → M → List ℕ → Fault → Type 0

@@ -1,16 +1,17 @@
 //! A run of the program over the databases of a machine.
 ghost use Rattle.prt_host.specs.Runs.{RunsPrt};
 ghost use Rattle.prt_program.specs.Program.{streams_of};
+ghost use Rattle.prt_questions.specs.Sources.{sources_of};
 ghost use Rattle.prt_words.specs.Invocation.{arguments, invocation};
 
 use crate::door::ServerNet;
 use crate::server::serve;
 use crate::status::Measures;
 use crate::telling::tell_failure;
-use prt_program::{Next, Noting, program};
+use prt_program::{Next, Noting, ReadFiles, program};
 use prt_questions::{DatabaseFiles, Machine, answer_question};
 use sqlite::{Alter, Connection};
-use std::alloc::{Alloc, Global};
+use std::alloc::Global;
 use std::fs::Files;
 use std::io::{IsTerminal, Read, Write};
 use std::rt::Clock;
@@ -28,7 +29,7 @@ use std::thread::Threads;
 pub fn run<
     S: Alter + Drop + Send,
     M: Machine<Connection<S>> + Drop,
-    F: Files + Measures + Alloc + Clone + Clock + Drop + Sync,
+    F: Files + ReadFiles + Measures + Clock + Drop + Sync,
     N: ServerNet + Threads + Wait + Clock + Copy + Drop + Send + Sync,
     R: Read,
     W: Write + IsTerminal,
@@ -44,7 +45,8 @@ pub fn run<
 where
     N::Stream: Send,
     N::Door: Sync,
-    ensures { RunsPrt S.Store M.opens M.refuses M.closes databases.old.machine databases.new.machine F.File.remaining (invocation (arguments words.now))
+    ensures { RunsPrt S.Store M.opens M.refuses M.closes databases.old.machine databases.new.machine F.Opened.remaining
+        (sources_of F.opens F.Opened.remaining databases.old.files.now N.reaches N.Stream.remaining databases.old.rt (⟦<Noting<R> as Read>⟧.remaining input.old)) (invocation (arguments words.now))
         (streams_of (⟦<Noting<R> as Read>⟧.remaining input.old) (⟦<Noting<W> as Write>⟧.contents output.old) (⟦<Noting<W> as Write>⟧.contents output.new)) result }
 {
     let files = databases.files;

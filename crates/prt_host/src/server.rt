@@ -1,9 +1,9 @@
 //! The server: a database that is opened, served and closed.
-ghost use Rattle.std.specs.Prelude.{◌≡◌, ◌≢◌, IfErr, IfSome, OnOk};
-ghost use Rattle.prt_host.specs.Serving.{IsFaultOfServing, IsNotServed, IsServed};
+ghost use Rattle.std.specs.Prelude.{◌≡◌, ◌≢◌, IfErr, IfSome, List, None, OnOk, length};
+ghost use Rattle.prt_host.specs.Serving.{IsFaultOfServing, IsLeft, IsNotServed, IsServedBy};
 ghost use Rattle.prt_words.specs.declared.fault.Fault.{Fault};
 ghost use Rattle.prt_publisher.specs.Standing.{IsQuiet};
-ghost use Rattle.prt_service.specs.Named.{IsReleased};
+ghost use Rattle.prt_serve.specs.Kept.{Work};
 
 use crate::door::ServerNet;
 use crate::doors::{NotListened, listen};
@@ -79,7 +79,7 @@ where
     N::Door: Sync,
     requires { IsQuiet publisher.phase }
     ensures fault { IfSome result.0 (λ failure. IsFaultOfServing failure.fault) }
-    ensures released { IsReleased S.Store publisher.line.book publisher.line.base publisher.ours_first result.1 }
+    ensures left { (shifts : List Work) × IsLeft S.Store publisher.line.book publisher.line.base publisher.ours_first shifts result.1 × (result.0 ≡ None → length shifts ≡ asked.now.workers) }
 {
     let doors = match listen(rt, files, alloc, asked, output) {
         Ok(doors) => doors,
@@ -145,8 +145,8 @@ fn serve_database<
 where
     N::Stream: Send,
     N::Door: Sync,
-    ensures ok { OnOk result (IsServed M.opens M.closes S.Store databases.old.machine databases.new.machine asked.now.database.now) }
-    ensures err { IfErr result (λ failure. IsNotServed M.opens M.refuses M.closes S.Store databases.old.machine databases.new.machine asked.now.database.now failure.fault) }
+    ensures ok { OnOk result (IsServedBy (M.opens Wanted.Any) M.closes S.Store asked.now.workers databases.old.machine databases.new.machine asked.now.database.now) }
+    ensures err { IfErr result (λ failure. IsNotServed (M.opens Wanted.Any) (M.refuses Wanted.Any) M.closes S.Store databases.old.machine databases.new.machine asked.now.database.now failure.fault) }
 {
     let (rt, path) = (databases.rt, asked.database);
     let opened = open_publisher(&mut databases.machine, alloc, path, Wanted::Any);
@@ -172,6 +172,9 @@ where
 ///
 /// The status is 0 if as many sessions as were asked for have ended, and 3 for a fault: of opening, of the listener and
 /// what brings its connections to the workers, or of a worker that got no looker. The database is closed at the end.
+///
+/// With status 0 the list that was published at the end has each command that a worker replied `ok N` to, at the number N,
+/// and the tables that are left stand for it.
 pub(crate) fn serve<
     S: Alter + Drop + Send,
     M: Machine<Connection<S>> + Drop,
@@ -189,9 +192,9 @@ pub(crate) fn serve<
 where
     N::Stream: Send,
     N::Door: Sync,
-    ensures done { result ≡ DONE → IsServed M.opens M.closes S.Store databases.old.machine databases.new.machine asked.now.database.now }
+    ensures done { result ≡ DONE → IsServedBy (M.opens Wanted.Any) M.closes S.Store asked.now.workers databases.old.machine databases.new.machine asked.now.database.now }
     ensures fault { result ≢ DONE → result ≡ FAULT }
-    ensures why { result ≢ DONE → (fault : Fault) × IsNotServed M.opens M.refuses M.closes S.Store databases.old.machine databases.new.machine asked.now.database.now fault }
+    ensures why { result ≢ DONE → (fault : Fault) × IsNotServed (M.opens Wanted.Any) (M.refuses Wanted.Any) M.closes S.Store databases.old.machine databases.new.machine asked.now.database.now fault }
 {
     let errors = Mutex::new(errors);
     let served = serve_database(databases, alloc, asked, output, &errors);

@@ -1,17 +1,19 @@
 //! Serving what listeners accept, over a publisher.
-ghost use Rattle.std.specs.Prelude.{◌≡◌};
-ghost use Rattle.prt_host.specs.Serving.{fault_of, further_of, is_failed, is_listeners, lacks_workers, looker_fault};
+ghost use Rattle.std.specs.Prelude.{◌≡◌, ◌≢◌, All, List, None, length, true, vec_len};
+ghost use Rattle.prt_host.specs.Serving.{IsLeft, fault_of, further_of, is_failed, is_listeners, lacks_workers, looker_fault};
 ghost use Rattle.prt_publisher.specs.Standing.{IsQuiet};
-ghost use Rattle.prt_service.specs.Named.{IsNamed, IsReleased};
+ghost use Rattle.prt_serve.specs.Kept.{Keeps, Work};
+ghost use Rattle.prt_service.specs.Named.{IsNamed};
 
 use crate::counts::Counts;
 use crate::status::Measures;
 use crate::telling::Telling;
+use prt_front::Known;
 use prt_grace::Domain;
 use prt_program::Refusal;
 use prt_publisher::{Publisher, Seats};
-use prt_serve::{Accepting, Entrances, Limits, ServeEnd, serve_entrances};
-use prt_service::{Naming, Service};
+use prt_serve::{Accepting, Entrances, Limits, ServeEnd, Shift, Worked, serve_entrances};
+use prt_service::{Naming, Released, Service};
 use prt_words::{Fault, Serving};
 use sqlite::{Alter, Connection};
 use std::alloc::Global;
@@ -33,7 +35,9 @@ fn idle_of(seconds: u64) -> Option<Duration> {
 }
 
 /// Computes how much is to be served.
-fn limits_of(asked: &Serving<'_>) -> Limits {
+fn limits_of(asked: &Serving<'_>) -> Limits
+    ensures { result.workers ≡ asked.now.workers }
+{
     Limits {
         workers: asked.workers as usize,
         sessions: asked.sessions,
@@ -61,7 +65,9 @@ fn serve_telling<
     is_logged: bool,
     entrances: &Entrances<L>,
     limits: Limits,
-) -> ServeEnd {
+) -> Worked<J>
+    ensures { result.end.accepting ≢ Accepting.Failed → result.end.refused ≡ None → vec_len result.shifts ≡ limits.workers }
+{
     let telling = Telling {
         rt,
         alloc,
@@ -77,7 +83,32 @@ fn serve_telling<
     serve_entrances(rt, alloc, service, &telling, entrances, limits)
 }
 
+/// Checks whether the published list keeps all that the workers replied `ok` to.
+fn are_kept<J: Naming>(published: &Known, shifts: &[Shift<J>]) -> bool
+    requires { published.now.book ≡ J.book }
+    ensures { result ≡ true → All (Keeps published.now) shifts.now }
+{
+    for shift in shifts {
+        if !shift.is_kept_by(published) {
+            return false;
+        }
+    }
+    true
+}
+
+/// Makes the end of a server of which it isn't known whether all that was replied `ok` to is kept. No service ends so.
+fn not_kept(end: ServeEnd) -> ServeEnd
+    ensures { fault_of result ≢ None }
+{
+    ServeEnd {
+        refused: Some(Refusal::NotPublished),
+        ..end
+    }
+}
+
 /// Serves what comes at the entrances, by a service that is named here. Returns how that ended, and the connection.
+///
+/// At the end the list that each worker knew is compared with the published one: if it weren't a prefix, that is a fault.
 pub(crate) fn serve_named<
     J: Naming + Send,
     S: Alter + Drop + Send,
@@ -100,10 +131,10 @@ pub(crate) fn serve_named<
     requires quiet { IsQuiet publisher.phase }
     requires of { IsNamed J.book J.base J.ours_first publisher }
     requires seats { (seats.book ≡ J.book) × (seats.base ≡ J.base) }
-    ensures { IsReleased S.Store J.book J.base J.ours_first result.1 }
+    ensures { (shifts : List Work) × IsLeft S.Store J.book J.base J.ours_first shifts result.1 × (fault_of result.0 ≡ None → length shifts ≡ asked.now.workers) }
 {
     let service: Service<S, J> = Service::new(publisher, seats, domain);
-    let end = serve_telling(
+    let Worked { end, shifts } = serve_telling(
         rt,
         alloc,
         files,
@@ -114,7 +145,12 @@ pub(crate) fn serve_named<
         entrances,
         limits_of(asked),
     );
-    (end, service.end(rt))
+    let Released { conn, published } = service.end(rt);
+    if are_kept(&published, shifts.as_slice()) {
+        (end, conn)
+    } else {
+        (not_kept(end), conn)
+    }
 }
 
 /// Returns whether accepting failed.

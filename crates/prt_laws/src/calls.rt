@@ -18,7 +18,7 @@ ghost use Rattle.prt_laws.specs.Laws.{Admits, AdoptsAgain, AdoptsStopped, Begins
 ghost use Rattle.prt_laws.specs.Runs.{Acknowledges, HoldsAll, TakesNot, events_of, receipts_of, step_acts};
 
 use prt_command::{Command, Refusal};
-use prt_grace::{Domain, Registry};
+use prt_grace::{Domain, LockedRegistry};
 use prt_publisher::{Checked, Phase, Publisher, Receipt};
 use sqlite::{Alter, Connection};
 use std::alloc::Global;
@@ -53,7 +53,7 @@ pub fn check_all<S: Alter + Drop>(
 /// `Busy`: the world refuses the commands for want of room, after a reclaim.
 pub fn admit<S: Alter + Drop>(
     publisher: &mut Publisher<S>,
-    registry: &mut Registry,
+    registry: &mut LockedRegistry,
     checked: Checked,
 ) -> Result<(), Refusal>
     requires ready { publisher.old.phase ≡ Phase.Ready }
@@ -121,7 +121,7 @@ pub fn show<S: Alter + Drop, W: Wait>(publisher: &mut Publisher<S>, rt: &W) -> R
 }
 
 /// Notes the published version, and acknowledges its commands.
-pub fn note<S: Alter + Drop>(publisher: &mut Publisher<S>, registry: &mut Registry) -> Receipt
+pub fn note<S: Alter + Drop>(publisher: &mut Publisher<S>, registry: &mut LockedRegistry) -> Receipt
     requires { publisher.old.phase ≡ Phase.Published }
     ensures { Notes S.Store publisher.old publisher.new registry.old registry.new result }
 {
@@ -137,7 +137,7 @@ pub fn note<S: Alter + Drop>(publisher: &mut Publisher<S>, registry: &mut Regist
 pub fn submit_by_steps<S: Alter + Drop, W: Wait>(
     publisher: &mut Publisher<S>,
     rt: &W,
-    registry: &mut Registry,
+    registry: &mut LockedRegistry,
     commands: &[Command],
 ) -> Result<Receipt, Refusal>
     requires quiet { IsQuiet publisher.old.phase }
@@ -175,7 +175,7 @@ pub fn submit_by_steps<S: Alter + Drop, W: Wait>(
 pub fn first_commands<S: Alter + Drop, W: Wait>(
     publisher: &mut Publisher<S>,
     rt: &W,
-    registry: &mut Registry,
+    registry: &mut LockedRegistry,
     commands: &[Command],
 ) -> Result<Receipt, Refusal>
     requires quiet { IsQuiet publisher.old.phase }

@@ -1,10 +1,11 @@
 -- A fault that was reported, and an input that was left alone.
-use Rattle.std.proofs.Common.{◌≡◌, ◌≢◌, ◌∙◌, ℕ, arith, inl, inr, refl, sym, List, Option, Some, None, Result, Ok, Err}
+use Rattle.std.proofs.Common.{◌≡◌, ◌≢◌, ◌⊎◌, ◌∙◌, ℕ, arith, inl, inr, refl, sym, List, Option, Some, None, Result, Ok, Err}
 use Rattle.std.specs.Prelude.{OnErr}
 use Rattle.prt_addr.specs.Word.{Word}
 use Rattle.prt_refusals.specs.declared.refusal.Refusal.{Refusal}
 use Rattle.prt_program.specs.Faults.{IsDatabaseFault, IsFault, IsOpening, database_of}
-use Rattle.prt_words.specs.Faults.{fault_status}
+use Rattle.prt_words.proofs.WordsRead.{either_status}
+use Rattle.prt_words.specs.Faults.{IsStatusOf, fault_status}
 use Rattle.prt_words.specs.Invocation.{Invocation, batch, check, replay}
 use Rattle.prt_program.specs.Program.{IsUntouched, LeavesInput, LeavesInputFor, RunsNothing}
 use Rattle.prt_words.specs.declared.fault.Fault.{Fault}
@@ -15,10 +16,25 @@ module _ {D : Type 0} (refuses : D → D → Word → Refusal → Type 0) (old n
   untouched None same = same
   untouched (Some path) same = inl same
 
+  -- words that ask for no run name no database
+  same_databases : (asked : Invocation) (status : ℕ) → IsStatusOf asked status → IsUntouched refuses (database_of asked) old new → new ≡ old
+  same_databases (batch script) status may left = absurd may
+  same_databases (check file) status may left = absurd may
+  same_databases (replay file) status may left = absurd may
+  same_databases _ status may left = left
+
   pub reported : (asked : Invocation) (fault : Fault) (status : ℕ) (writer0 writer1 writer : Option (List ℕ)) → IsFault asked fault → status ≡ fault_status fault
       → writer1 ≡ writer0 → (status ≢ 0 → writer ≡ writer1) → IsUntouched refuses (database_of asked) old new → RunsNothing refuses old new asked writer0 writer status
-  reported asked (Words error) status writer0 writer1 writer may is same kept left = (inl (rw is may), (λ other. kept other ∙ same), left)
-  reported asked (Opening reason) status writer0 writer1 writer may is same kept left = (inr is, (λ other. kept other ∙ same), left)
+  reported asked (Words error) status writer0 writer1 writer may is same kept left = go (either_status _)
+    where
+      stays : new ≡ old
+      stays = same_databases asked (fault_status (Words error)) may left
+
+      go : (fault_status (Words error) ≡ 0) ⊎ (fault_status (Words error) ≡ 2) → RunsNothing refuses old new asked writer0 writer status
+      go (inl zero) = inl (rw is may, is ∙ zero, stays)
+      go (inr two) = inr (inl (rw is may, is ∙ two, kept (λ zero. let bad : 2 ≡ 0 = sym (is ∙ two) ∙ zero in absurd (omega arith)) ∙ same, stays))
+  reported asked (Opening reason) status writer0 writer1 writer may is same kept left =
+      inr (inr (is, kept (λ zero. let bad : 3 ≡ 0 = sym is ∙ zero in absurd (omega arith)) ∙ same, left))
   reported asked Listener status writer0 writer1 writer may is same kept left = absurd may
 
 unread_for : (file : Option Word) (input : Option (List ℕ)) → LeavesInputFor file input input

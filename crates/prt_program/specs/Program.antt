@@ -1,10 +1,9 @@
 -- What the program does: it runs the session, the check or the replay that its words ask for, or it says why it does not.
-use Rattle.std.specs.Prelude.{◌≡◌, ◌≢◌, ◌⊎◌, ℕ, Bool, true, false, List, Option, Some, None}
+use Rattle.std.specs.Prelude.{◌≡◌, ◌⊎◌, ℕ, Bool, true, false, List, Option, Some, None}
 use Rattle.prt_addr.specs.Word.{Word}
 use Rattle.prt_refusals.specs.declared.refusal.Refusal.{Refusal}
 use Rattle.prt_program.specs.Databases.{OpensAndCloses}
 use Rattle.prt_program.specs.Faults.{database_of}
-use Rattle.prt_refusals.specs.declared.on_refusal.OnRefusal.TheVariants.{GoOn}
 use Rattle.prt_words.specs.Faults.{IsStatusOf}
 use Rattle.prt_words.specs.Invocation.{Invocation, batch, check, replay}
 use Rattle.prt_replay.specs.Replay.{ReplayIs}
@@ -18,6 +17,7 @@ use Rattle.prt_version.specs.State.{State, opening_state}
 use Rattle.prt_program.specs.declared.next.Next.{Next}
 use Rattle.prt_program.specs.declared.next.Next.TheVariants.{Ask, Exit, Serve}
 use Rattle.prt_replies.specs.declared.script_end.ScriptEnd.{ScriptEnd}
+use Rattle.prt_words.specs.declared.asking.Asked.{Asked}
 use Rattle.prt_words.specs.declared.serving.Serving.{Serving}
 use Rattle.prt_words.specs.declared.task.Mode.{Mode}
 use Rattle.prt_words.specs.declared.task.Mode.TheVariants.{InTurn, Together}
@@ -109,9 +109,23 @@ Runs bytes RunAt (check file) streams status = RunsOver bytes RunsCheck file str
 Runs bytes RunAt (replay file) streams status = RunsOver bytes RunsReplay file streams status
 Runs bytes RunAt asked streams status = ⊥
 
--- Nothing was run: the words ask for none, or there was a fault of opening. What the writer had is there alone, unless help was asked for.
+-- The words ask for help or for the version. No database was touched.
+abbrev pub Tells : {D : Type 0} → D → D → Invocation → ℕ → Type 0
+Tells old new asked status = IsStatusOf asked status × (status ≡ 0) × (new ≡ old)
+
+-- The words are bad. Nothing was written, and no database was touched.
+abbrev pub IsMisused : {D : Type 0} → D → D → Invocation → Option (List ℕ) → Option (List ℕ) → ℕ → Type 0
+IsMisused old new asked writer0 writer status = IsStatusOf asked status × (status ≡ 2) × (writer ≡ writer0) × (new ≡ old)
+
+-- Memory was refused, or the file or the database that is asked for could not be opened. Nothing was written.
+abbrev pub IsStopped : {D : Type 0} → (refuses : D → D → Word → Refusal → Type 0) → D → D → Invocation → Option (List ℕ) → Option (List ℕ) → ℕ → Type 0
+IsStopped refuses old new asked writer0 writer status = (status ≡ 3) × (writer ≡ writer0) × IsUntouched refuses (database_of asked) old new
+
+-- Nothing was run.
 abbrev pub RunsNothing : {D : Type 0} → (refuses : D → D → Word → Refusal → Type 0) → D → D → Invocation → Option (List ℕ) → Option (List ℕ) → ℕ → Type 0
-RunsNothing refuses old new asked writer0 writer status = (IsStatusOf asked status ⊎ (status ≡ 3)) × (status ≢ 0 → writer ≡ writer0) × IsUntouched refuses (database_of asked) old new
+RunsNothing refuses old new asked writer0 writer status =
+    Tells old new asked status
+    ⊎ (IsMisused old new asked writer0 writer status ⊎ IsStopped refuses old new asked writer0 writer status)
 
 -- the input is read for a run over it alone
 abbrev pub LeavesInputFor : Option Word → Option (List ℕ) → Option (List ℕ) → Type 0
@@ -140,8 +154,8 @@ IfServe holds (Exit status) = Unit {0}
 IfServe holds (Serve serving) = holds serving
 IfServe holds (Ask asked) = Unit {0}
 
--- if a question is asked
-abbrev pub IfAsk : Type 0 → Next → Type 0
+-- of the question, if one is asked
+abbrev pub IfAsk : (Asked → Type 0) → Next → Type 0
 IfAsk holds (Exit status) = Unit {0}
 IfAsk holds (Serve serving) = Unit {0}
-IfAsk holds (Ask asked) = holds
+IfAsk holds (Ask asked) = holds asked

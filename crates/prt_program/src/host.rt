@@ -1,16 +1,16 @@
 //! What surrounds a run.
 
 use crate::databases::Databases;
+use crate::read_files::ReadFiles;
 use std::alloc::Global;
-use std::fs::Files;
 use std::io::{IsTerminal, Write};
 use std::marker::PhantomData;
 use std::rt::Clock;
 
 /// The types of what surrounds a run.
 pub(crate) trait Host {
-    /// Opens files.
-    type Files: Files;
+    /// Opens files to read them.
+    type Files: ReadFiles;
 
     /// Opens databases.
     type Databases: Databases;
@@ -30,7 +30,7 @@ pub(crate) struct HostOf<F, D, W, E, K> {
     types: PhantomData<(F, D, W, E, K)>,
 }
 
-impl<F: Files, D: Databases, W: Write + IsTerminal, E: Write + Drop, K: Clock + Drop> Host
+impl<F: ReadFiles, D: Databases, W: Write + IsTerminal, E: Write + Drop, K: Clock + Drop> Host
     for HostOf<F, D, W, E, K> {
     type Files = F;
 

@@ -7,6 +7,7 @@ mod messages;
 mod next;
 mod noting;
 mod prt;
+mod read_files;
 
 pub use databases::Databases;
 pub use messages::{cause_message, log_message, question_message};
@@ -14,3 +15,4 @@ pub use next::Next;
 pub use noting::Noting;
 pub use prt::program;
 pub use prt_session::{Desk, Refusal, ScriptEnd};
+pub use read_files::ReadFiles;

@@ -1,5 +1,5 @@
 //! The runs of the program.
-ghost use Rattle.std.specs.Prelude.{◌≡◌, ◌≢◌, ◌⊎◌, IfErr, IfOk, MatchResult, OnErr, None, option_map};
+ghost use Rattle.std.specs.Prelude.{◌≡◌, ◌⊎◌, IfErr, IfOk, MatchResult, OnErr, None, option_map};
 ghost use Rattle.std.specs.Io.Buffered.{reader_remaining};
 ghost use Rattle.prt_refusals.specs.Opening.{IsOpenRefusal};
 ghost use Rattle.prt_refusals.specs.declared.refusal.Refusal.{Refusal};
@@ -9,7 +9,8 @@ ghost use Rattle.prt_program.specs.Program.{IfAsk, IfExit, IfServe, IsUntouched,
 ghost use Rattle.prt_session.specs.Open.{IsOpenOn};
 ghost use Rattle.prt_session.specs.Stands.{Explained, StandsForSome};
 ghost use Rattle.prt_version.specs.State.{State};
-ghost use Rattle.prt_words.specs.CommandLine.{IsServing};
+ghost use Rattle.prt_words.specs.Read.{IsQuestionIn, IsServiceIn};
+ghost use Rattle.prt_words.specs.Tasks.{IsServing};
 ghost use Rattle.prt_words.specs.Invocation.{arguments, ask, invocation, serve};
 ghost use Rattle.prt_words.specs.declared.fault.Fault.TheVariants.{Opening};
 
@@ -18,13 +19,13 @@ use crate::host::{Host, HostOf, Surroundings};
 use crate::messages::Messages;
 use crate::next::Next;
 use crate::noting::Noting;
+use crate::read_files::ReadFiles;
 use prt_replay::run_replay;
 use prt_session::{
     Desk, MemoryDesk, Observer, Refusal, ScriptEnd, check_lines, run_atomic, run_script,
 };
 use prt_words::{Batch, DONE, FAULT, Fault, Mode, STANDARD_INPUT, Task, read_words};
 use std::alloc::Global;
-use std::fs::{self, Files};
 use std::io::{BufReader, IsTerminal, Read, Write};
 use std::rt::Clock;
 
@@ -180,14 +181,14 @@ fn replay<R: Read, W: Write, O: Observer>(
 }
 
 /// Opens the file of this path.
-fn open_file<F: Files, E: Write + Drop, K: Clock + Drop>(
+fn open_file<F: ReadFiles, E: Write + Drop, K: Clock + Drop>(
     files: &F,
     path: &str,
     messages: &mut Messages<'_, E, K>,
-) -> Result<F::File, Fault>
+) -> Result<F::Opened, Fault>
     ensures { IfErr result (λ fault. fault ≡ Opening ReadFault) }
 {
-    match fs::open(files, path) {
+    match files.open_to_read(path) {
         Ok(file) => Ok(file),
         Err(error) => {
             messages.keep_cause(path, &error);
@@ -203,7 +204,7 @@ fn run_script_of<'a, H: Host, R: Read>(
     input: &mut R,
     messages: &mut Messages<'a, H::Errors, H::Clock>,
 ) -> Result<u8, Fault>
-    ensures run { IfOk result (RunsOver H.Files.File.remaining (RunsBatch (RunsAt H.Databases.holds H.Databases.opens H.Databases.closed H.Databases.leaves H.Databases.Opened.stands H.Databases.Opened.keeps H.Databases.Opened.may around.old.databases.now around.new.databases.now)
+    ensures run { IfOk result (RunsOver H.Files.Opened.remaining (RunsBatch (RunsAt H.Databases.holds H.Databases.opens H.Databases.closed H.Databases.leaves H.Databases.Opened.stands H.Databases.Opened.keeps H.Databases.Opened.may around.old.databases.now around.new.databases.now)
         (option_map (λ path. path.now) batch.entry.database) batch.entry.mode) (option_map (λ path. path.now) batch.entry.file) (streams_of (R.remaining input.old) (H.Output.contents around.old.output.now) (H.Output.contents around.new.output.now))) }
     ensures unread { LeavesInputFor (option_map (λ path. path.now) batch.entry.file) (R.remaining input.old) (R.remaining input.new) }
     ensures fault { IfErr result (IsOpening (IsScriptFault (option_map (λ path. path.now) batch.entry.database))) }
@@ -238,7 +239,7 @@ fn check_of<'a, H: Host, R: Read>(
     input: &mut R,
     messages: &mut Messages<'a, H::Errors, H::Clock>,
 ) -> Result<u8, Fault>
-    ensures run { IfOk result (RunsOver H.Files.File.remaining RunsCheck (option_map (λ path. path.now) path.entry)
+    ensures run { IfOk result (RunsOver H.Files.Opened.remaining RunsCheck (option_map (λ path. path.now) path.entry)
         (streams_of (R.remaining input.old) (H.Output.contents around.old.output.now) (H.Output.contents around.new.output.now))) }
     ensures unread { LeavesInputFor (option_map (λ path. path.now) path.entry) (R.remaining input.old) (R.remaining input.new) }
     ensures fault { IfErr result (IsOpening (IsScriptFault None)) }
@@ -267,7 +268,7 @@ fn replay_of<'a, H: Host, R: Read>(
     input: &mut R,
     messages: &mut Messages<'a, H::Errors, H::Clock>,
 ) -> Result<u8, Fault>
-    ensures run { IfOk result (RunsOver H.Files.File.remaining RunsReplay (option_map (λ path. path.now) path.entry)
+    ensures run { IfOk result (RunsOver H.Files.Opened.remaining RunsReplay (option_map (λ path. path.now) path.entry)
         (streams_of (R.remaining input.old) (H.Output.contents around.old.output.now) (H.Output.contents around.new.output.now))) }
     ensures unread { LeavesInputFor (option_map (λ path. path.now) path.entry) (R.remaining input.old) (R.remaining input.new) }
     ensures fault { IfErr result (λ fault. fault ≡ Opening ReadFault) }
@@ -295,10 +296,10 @@ fn run_words<'a, H: Host, R: Read>(
     input: &mut R,
     messages: &mut Messages<'a, H::Errors, H::Clock>,
 ) -> Result<Next<'a>, Fault>
-    ensures run { IfOk result (IfExit (Runs H.Files.File.remaining (RunsAt H.Databases.holds H.Databases.opens H.Databases.closed H.Databases.leaves H.Databases.Opened.stands H.Databases.Opened.keeps H.Databases.Opened.may around.old.databases.now around.new.databases.now)
+    ensures run { IfOk result (IfExit (Runs H.Files.Opened.remaining (RunsAt H.Databases.holds H.Databases.opens H.Databases.closed H.Databases.leaves H.Databases.Opened.stands H.Databases.Opened.keeps H.Databases.Opened.may around.old.databases.now around.new.databases.now)
         (invocation (arguments words.now)) (streams_of (R.remaining input.old) (H.Output.contents around.old.output.now) (H.Output.contents around.new.output.now)))) }
-    ensures serve { IfOk result (IfServe (λ serving. (invocation (arguments words.now) ≡ serve) × IsServing serving × (H.Output.contents around.new.output.now ≡ H.Output.contents around.old.output.now))) }
-    ensures ask { IfOk result (IfAsk ((invocation (arguments words.now) ≡ ask) × (H.Output.contents around.new.output.now ≡ H.Output.contents around.old.output.now))) }
+    ensures serve { IfOk result (IfServe (λ serving. (invocation (arguments words.now) ≡ serve (arguments words.now)) × IsServing serving × IsServiceIn (arguments words.now) serving × (H.Output.contents around.new.output.now ≡ H.Output.contents around.old.output.now))) }
+    ensures ask { IfOk result (IfAsk (λ asked. (invocation (arguments words.now) ≡ ask (arguments words.now)) × IsQuestionIn (arguments words.now) asked × (H.Output.contents around.new.output.now ≡ H.Output.contents around.old.output.now))) }
     ensures unread { LeavesInput (invocation (arguments words.now)) (R.remaining input.old) (R.remaining input.new) }
     ensures fault { IfErr result (IsFault (invocation (arguments words.now))) }
     ensures unopened { LeavesDatabases (invocation (arguments words.now)) around.old.databases.now around.new.databases.now }
@@ -341,7 +342,7 @@ fn run_words<'a, H: Host, R: Read>(
 /// for a fault of opening, of the store, of the reader or of the writer.
 pub fn program<
     'a,
-    F: Files + Clock,
+    F: ReadFiles + Clock,
     D: Databases,
     R: Read,
     W: Write + IsTerminal,
@@ -355,11 +356,11 @@ pub fn program<
     output: &mut W,
     errors: &mut E,
 ) -> Next<'a>
-    ensures run { IfExit (λ status. Runs F.File.remaining (RunsAt D.holds D.opens D.closed D.leaves D.Opened.stands D.Opened.keeps D.Opened.may databases.old databases.new)
+    ensures run { IfExit (λ status. Runs F.Opened.remaining (RunsAt D.holds D.opens D.closed D.leaves D.Opened.stands D.Opened.keeps D.Opened.may databases.old databases.new)
         (invocation (arguments words.now)) (streams_of (R.remaining input.old) (W.contents output.old) (W.contents output.new)) status
         ⊎ RunsNothing D.refuses databases.old databases.new (invocation (arguments words.now)) (W.contents output.old) (W.contents output.new) status) result }
-    ensures serve { IfServe (λ serving. (invocation (arguments words.now) ≡ serve) × IsServing serving × (W.contents output.new ≡ W.contents output.old)) result }
-    ensures ask { IfAsk ((invocation (arguments words.now) ≡ ask) × (W.contents output.new ≡ W.contents output.old)) result }
+    ensures serve { IfServe (λ serving. (invocation (arguments words.now) ≡ serve (arguments words.now)) × IsServing serving × IsServiceIn (arguments words.now) serving × (W.contents output.new ≡ W.contents output.old)) result }
+    ensures ask { IfAsk (λ asked. (invocation (arguments words.now) ≡ ask (arguments words.now)) × IsQuestionIn (arguments words.now) asked × (W.contents output.new ≡ W.contents output.old)) result }
     ensures unread { LeavesInput (invocation (arguments words.now)) (R.remaining input.old) (R.remaining input.new) }
     ensures unopened { LeavesDatabases (invocation (arguments words.now)) databases.old databases.new }
 {

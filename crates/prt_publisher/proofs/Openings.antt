@@ -1,12 +1,13 @@
 -- What an opening makes of a database, and what it leaves if it is refused.
-use Rattle.std.proofs.Common.{◌≡◌, inl, inr, sym, subst, ◌∙◌, arith}
-use Rattle.std.specs.Prelude.{IsTrue}
+use Rattle.std.proofs.Common.{◌≡◌, inl, inr, sym, subst, ◌∙◌, arith, Result, Ok, Err}
+use Rattle.std.specs.Prelude.{IfOk, IsTrue}
 use Rattle.sqlite.proofs.StateLemmas.{survives_then}
 use Rattle.sqlite.specs.Effect.{Database, IsDatabase}
 use Rattle.sqlite.specs.Held.{Held, state}
 use Rattle.sqlite.specs.State.{HasCleanDisk, IsUnchanged, Survives}
 use Rattle.sqlite.specs.Store.{Ghosts}
 use Rattle.sqlite.specs.Tree.{Trees}
+use Rattle.sqlite.specs.declared.error.Error.{Error}
 use Rattle.prt_refusals.specs.Opening.{IsOpenRefusal}
 use Rattle.prt_refusals.specs.declared.refusal.Refusal.{Refusal}
 use Rattle.prt_refusals.specs.declared.refusal.Refusal.TheVariants.{Damaged, NoMemory}
@@ -24,7 +25,8 @@ use Rattle.prt_store.proofs.Spelled.{stored_there}
 use Rattle.prt_store.specs.Exits.{HasState, IsStored}
 use Rattle.prt_store.specs.Openings.{MakesAndFills}
 use Rattle.prt_store.specs.Shown.{ShowsState}
-use Rattle.prt_publisher.specs.Openings.{HasOpened, HasRefused, Lasts}
+use Rattle.prt_publisher.specs.Openings.{HasOpened, HasRefused, Lasts, OpensOne, RefusesToOpen}
+use Rattle.prt_publisher.specs.Standing.{Standing}
 
 -- ---- adopted, and then loaded
 
@@ -108,3 +110,16 @@ module _ {S : Type 0} (g : Ghosts S) (was made left : Held S) (reason : Refusal)
     part = λ clean _ begins. part_of (state g was).now (state g made).now (made_so.adopts clean begins).0;
     lasts = made_so.lasts;
   })
+
+-- ---- what an open gives is found so
+
+module _ {S : Type 0} (g : Ghosts S) (IsFound : Held S → Type 0) (opened : Result (Held S) Error) (found : IfOk opened IsFound) where
+  found_so : (was : Held S) → opened ≡ Ok was → IsFound was
+  found_so was is = subst (λ (r : Result (Held S) Error). IfOk r IsFound) is found
+
+  pub opens_found : (made : Standing (Held S)) → OpensOne g (λ was. opened ≡ Ok was) made → OpensOne g IsFound made
+  opens_found made one = record { was = one.was; found = found_so one.was one.found; format = one.format; opened = one.opened; begun = one.begun }
+
+  pub refuses_found : (reason : Refusal) (left : Result (Held S) Error) → IfOk left (RefusesToOpen g (λ was. opened ≡ Ok was) reason) → IfOk left (RefusesToOpen g IsFound reason)
+  refuses_found reason (Err error) one = tt
+  refuses_found reason (Ok left) one = record { was = one.was; found = found_so one.was one.found; refused = one.refused }

@@ -31,12 +31,13 @@ use crate::plan::{Plan, plan_shown};
 use crate::{Checked, Phase, Receipt, Seats};
 use prt_command::{Command, Refusal};
 use prt_front::{Front, Known, Told};
-use prt_grace::{Domain, Keeper, Registry};
+use prt_grace::{Domain, Keeper, LockedRegistry};
 use prt_store::{Stamp, Store};
 use prt_version::Version;
 use sqlite::{Alter, Connection, Error};
 use std::alloc::Global;
 use std::marker::Model;
+use std::snapshot::Snapshot;
 use std::sync::{Arc, Wait};
 use std::{mem, slice};
 
@@ -187,6 +188,13 @@ impl<S: Alter + Drop> Publisher<S> {
         }
     }
 
+    /// Returns the published list.
+    pub fn known(&self) -> Known
+        ensures { result ≡ self.now.line }
+    {
+        self.front.known()
+    }
+
     /// Returns the number of the version that was noted last: the published one, except in the moment before it is noted.
     pub fn noted(&self) -> u64
         ensures { result + unnoted self.now.phase self.now.commands ≡ (line_state self.now.line).count }
@@ -263,7 +271,7 @@ impl<S: Alter + Drop> Publisher<S> {
     ///
     /// `Busy` exactly if the registry has no room. The publisher is then as it was, and the registry too, except for
     /// what it gave up.
-    pub fn admit(&mut self, registry: &mut Registry, checked: Checked) -> Result<(), Refusal>
+    pub fn admit(&mut self, registry: &mut LockedRegistry, checked: Checked) -> Result<(), Refusal>
         requires ready { self.old.phase ≡ Phase.Ready }
         requires checked { AreChecked (line_state self.old.line) checked }
         ensures ok { OnOk result (self.new ≡ record self.old { phase = Phase.Admitted; commands = commands_checked checked }) }
@@ -358,7 +366,10 @@ impl<S: Alter + Drop> Publisher<S> {
         match mem::replace(&mut self.step, Step::Closed(None)) {
             Step::Committed(plan, stamp) => {
                 let shown = plan.shown;
-                match self.front.publish_all(rt, stamp, &plan.commands, shown) {
+                match self
+                    .front
+                    .publish_all(rt, stamp, Snapshot::of(&plan.commands), shown)
+                {
                     Ok(_told) => {
                         self.version = plan.next;
                         self.step = Step::Published(plan.commands, plan.noted);
@@ -375,7 +386,7 @@ impl<S: Alter + Drop> Publisher<S> {
     }
 
     /// Notes the published version in the registry, and acknowledges the commands.
-    pub fn note(&mut self, registry: &mut Registry) -> Receipt
+    pub fn note(&mut self, registry: &mut LockedRegistry) -> Receipt
         requires { self.old.phase ≡ Phase.Published }
         ensures same { self.new ≡ record self.old { phase = Phase.Ready; commands = [] } }
         ensures receipt { result ≡ self.old.line }

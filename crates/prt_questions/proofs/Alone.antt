@@ -61,4 +61,6 @@ module _ {D M S : Type 0} (g : Ghosts S) (opens : M → M → List ℕ → Held 
 
   pub runs_nothing_alone : (refuses : M → M → Word → Refusal → Type 0) (asked : Invocation) (writer0 writer : Option (List ℕ)) (status : ℕ)
       → RunsNothing (λ (old new : D) path reason. refuses (machine old) (machine new) path reason) old new asked writer0 writer status → RunsNothing refuses (machine old) (machine new) asked writer0 writer status
-  runs_nothing_alone refuses asked writer0 writer status nothing = (nothing.0, nothing.1, nothing_alone refuses (database_of asked) nothing.2)
+  runs_nothing_alone refuses asked writer0 writer status (inl told) = inl (told.0, told.1, ap machine told.2)
+  runs_nothing_alone refuses asked writer0 writer status (inr (inl misused)) = inr (inl (misused.0, misused.1, misused.2, ap machine misused.3))
+  runs_nothing_alone refuses asked writer0 writer status (inr (inr stopped)) = inr (inr (stopped.0, stopped.1, nothing_alone refuses (database_of asked) stopped.2))

@@ -12,12 +12,17 @@ use Rattle.prt_version.specs.State.{State}
 use Rattle.prt_words.specs.declared.asking.Source.{Source}
 use Rattle.prt_words.specs.declared.asking.Source.TheVariants.{Database, Server, Script}
 use Rattle.prt_questions.specs.Asking.{IsAnswered, IsAnsweredAtMost, IsAskedOf, IsCutOff, IsNotAsked, IsReplied, IsRepliedAtMost, IsTold, called, said}
+use Rattle.prt_questions.specs.Sources.{Sources}
+use Rattle.prt_questions.specs.Told.{IsSaidOf, TellsOrReplies}
 use Rattle.prt_questions.specs.declared.inquiry.Inquiry.{Inquiry}
+use Rattle.prt_questions.specs.declared.machine.Wanted.{Wanted}
+use Rattle.prt_questions.specs.declared.remote.Told.{Told}
+use Rattle.prt_questions.specs.declared.remote.Told.TheVariants.{Reply, Tables}
 use Rattle.prt_import.specs.TableNames.{names_of}
 
-module _ {M S : Type 0} (g : Ghosts S) (opens : M → M → List ℕ → Held S → Type 0) (refuses : M → M → List ℕ → Type 0) (closes : M → M → Held S → Type 0) (old new : M) where
+module _ {M S : Type 0} (g : Ghosts S) (opens : Wanted → M → M → List ℕ → Held S → Type 0) (refuses : Wanted → M → M → List ℕ → Type 0) (closes : M → M → Held S → Type 0) (from : Sources) (old new : M) where
   -- what holds of the state that was asked, and what follows from it
-  pub asked_more : (source : Source) (P Q : State → Type 0) → ((state : State) → P state → Q state) → IsAskedOf g opens refuses closes old new source P → IsAskedOf g opens refuses closes old new source Q
+  pub asked_more : (source : Source) (P Q : State → Type 0) → ((state : State) → P state → Q state) → IsAskedOf g opens refuses closes from old new source P → IsAskedOf g opens refuses closes from old new source Q
   asked_more (Database path) P Q more asked = record {
     between = asked.between;
     first = asked.first;
@@ -26,26 +31,26 @@ module _ {M S : Type 0} (g : Ghosts S) (opens : M → M → List ℕ → Held S 
     made = (asked.made.0, asked.made.1, more asked.made.0 asked.made.2);
     is_closed = asked.is_closed;
   }
-  asked_more (Server place) P Q more asked = (asked.0, asked.1, more asked.1 asked.2)
-  asked_more (Script file) P Q more asked = (asked.0, asked.1, asked.2, asked.3, more asked.1.version asked.4)
+  asked_more (Server place) P Q more asked = (asked.0, asked.1, asked.2, more asked.1 asked.3)
+  asked_more (Script file) P Q more asked = (asked.0, asked.1, asked.2, asked.3, asked.4, more asked.1.version asked.5)
 
   -- an answer of which nothing was written
   nothing_said : (text before lines : List ℕ) → Appends (Some before) (Some lines) text → before ≡ [] → lines ≡ [] → text ≡ []
   nothing_said text before lines appended begun empty = sym (ap (λ xs. xs ++ text) begun) ∙ sym appended ∙ empty
 
   pub says_nothing : (source : Source) (says : State → List ℕ) (before lines : List ℕ) → before ≡ [] → lines ≡ []
-      → IsAnswered g opens refuses closes old new (Some before) (Some lines) source says → IsAskedOf g opens refuses closes old new source (λ state. says state ≡ [])
+      → IsAnswered g opens refuses closes from old new (Some before) (Some lines) source says → IsAskedOf g opens refuses closes from old new source (λ state. says state ≡ [])
   says_nothing (Script file) says before lines begun empty answered =
-      (answered.0, answered.1, answered.2, answered.3, nothing_said (says answered.1.version) before lines answered.5 begun empty)
+      (answered.0, answered.1, answered.2, answered.3, answered.4, nothing_said (says answered.1.version) before lines answered.6 begun empty)
   says_nothing (Database path) says before lines begun empty answered =
       asked_more (Database path) (λ state. Appends (Some before) (Some lines) (says state)) (λ state. says state ≡ [])
       (λ state appended. nothing_said (says state) before lines appended begun empty) answered
   says_nothing (Server place) says before lines begun empty answered =
-      (answered.0, answered.1, nothing_said (says answered.1) before lines answered.2 begun empty)
+      (answered.0, answered.1, answered.2, nothing_said (says answered.1) before lines answered.3 begun empty)
 
   -- whether it was asked, whatever was written
-  pub asked_or_not : (source : Source) (says : State → List ℕ) (writer0 writer : Option (List ℕ)) → IsAnsweredAtMost g opens refuses closes old new writer0 writer source says
-      → IsNotAsked g opens refuses closes old new source ⊎ IsAskedOf g opens refuses closes old new source (λ state. Unit {0})
+  pub asked_or_not : (source : Source) (says : State → List ℕ) (writer0 writer : Option (List ℕ)) → IsAnsweredAtMost g opens refuses closes from old new writer0 writer source says
+      → IsNotAsked g opens refuses closes old new source ⊎ IsAskedOf g opens refuses closes from old new source (λ state. Unit {0})
   asked_or_not source says writer0 writer (inl not_asked) = inl not_asked.0
   asked_or_not source says writer0 writer (inr asked) = inr (asked_more source (λ state. IsCutOff (says state) writer0 writer) (λ state. Unit {0}) (λ state cut. tt) asked)
 
@@ -59,23 +64,35 @@ none_there [] is = refl
 none_there (x ∷ xs) is = let bad : length (x ∷ xs) ≡ 0 = eqb-true (length (x ∷ xs)) 0 is in absurd (omega arith)
 
 -- of a script no database is touched
-pub of_script : {M : Type 0} (machine : M) (writer0 writer : Option (List ℕ)) (says : State → List ℕ)
-    → (writer ≡ writer0) ⊎ ((made : Accepted) × (text : List ℕ) × IsExecuted made text × IsCutOff (says made.version) writer0 writer)
-    → ((machine ≡ machine) × (writer ≡ writer0)) ⊎ ((machine ≡ machine) × (made : Accepted) × (text : List ℕ) × IsExecuted made text × IsCutOff (says made.version) writer0 writer)
-of_script machine writer0 writer says (inl same) = inl (refl, same)
-of_script machine writer0 writer says (inr made) = inr (refl, made.0, made.1, made.2, made.3)
+pub of_script : {M : Type 0} (machine : M) (reads : List ℕ → Type 0) (writer0 writer : Option (List ℕ)) (says : State → List ℕ)
+    → (writer ≡ writer0) ⊎ ((made : Accepted) × (text : List ℕ) × reads text × IsExecuted made text × IsCutOff (says made.version) writer0 writer)
+    → ((machine ≡ machine) × (writer ≡ writer0)) ⊎ ((machine ≡ machine) × (made : Accepted) × (text : List ℕ) × reads text × IsExecuted made text × IsCutOff (says made.version) writer0 writer)
+of_script machine reads writer0 writer says (inl same) = inl (refl, same)
+of_script machine reads writer0 writer says (inr made) = inr (refl, made.0, made.1, made.2, made.3, made.4)
+
+-- nor of a server
+pub of_server : {M : Type 0} (machine : M) (tells : State → Type 0) (writer0 writer : Option (List ℕ)) (says : State → List ℕ)
+    → (writer ≡ writer0) ⊎ ((told : State) × tells told × IsCutOff (says told) writer0 writer)
+    → ((machine ≡ machine) × (writer ≡ writer0)) ⊎ ((machine ≡ machine) × (told : State) × tells told × IsCutOff (says told) writer0 writer)
+of_server machine tells writer0 writer says (inl same) = inl (refl, same)
+of_server machine tells writer0 writer says (inr told) = inr (refl, told.0, told.1, told.2)
 
 -- what a server said and was written, of its tables or by a session
-module _ {M S : Type 0} (g : Ghosts S) (opens : M → M → List ℕ → Held S → Type 0) (refuses : M → M → List ℕ → Type 0) (closes : M → M → Held S → Type 0) (machine : M) (writer0 writer : Option (List ℕ)) where
-  pub told_whole : (place : ServerPlace) (inquiry : Inquiry) (text : List ℕ) → IsTold inquiry text → Appends writer0 writer text
-      → IsAnswered g opens refuses closes machine machine writer0 writer (Server place) (said inquiry)
-      ⊎ IsReplied g opens refuses closes machine machine writer0 writer (Server place) (called inquiry.labels inquiry.form (names_of inquiry.names.now))
-  told_whole place inquiry text (inl (told, is)) appended = inl (refl, told, rw (sym is) appended)
-  told_whole place inquiry text (inr (reply, is)) appended = inr (refl, reply, rw (sym is) appended)
+module _ {M S : Type 0} (g : Ghosts S) (opens : Wanted → M → M → List ℕ → Held S → Type 0) (refuses : Wanted → M → M → List ℕ → Type 0) (closes : M → M → Held S → Type 0) (from : Sources) (machine : M) (writer0 writer : Option (List ℕ)) where
+  pub told_whole : (place : ServerPlace) (line : List ℕ) (inquiry : Inquiry) (text : List ℕ) → IsTold (from.tells place) (from.replies place line) inquiry text → Appends writer0 writer text
+      → IsAnswered g opens refuses closes from machine machine writer0 writer (Server place) (said inquiry)
+      ⊎ IsReplied g opens refuses closes from machine machine writer0 writer (Server place) line (called inquiry.labels inquiry.form (names_of inquiry.names.now))
+  told_whole place line inquiry text (inl (told, tells, is)) appended = inl (refl, told, tells, rw (sym is) appended)
+  told_whole place line inquiry text (inr (reply, replies, is)) appended = inr (refl, reply, replies, rw (sym is) appended)
 
-  pub told_at_most : (place : ServerPlace) (inquiry : Inquiry) → (writer ≡ writer0) ⊎ ((text : List ℕ) × IsTold inquiry text × IsCutOff text writer0 writer)
-      → IsAnsweredAtMost g opens refuses closes machine machine writer0 writer (Server place) (said inquiry)
-      ⊎ IsRepliedAtMost g opens refuses closes machine machine writer0 writer (Server place) (called inquiry.labels inquiry.form (names_of inquiry.names.now))
-  told_at_most place inquiry (inl same) = inl (inl (refl, same))
-  told_at_most place inquiry (inr (text, inl (told, is), cut)) = inl (inr (refl, told, rw (sym is) cut))
-  told_at_most place inquiry (inr (text, inr (reply, is), cut)) = inr (refl, reply, rw (sym is) cut)
+  pub told_at_most : (place : ServerPlace) (line : List ℕ) (inquiry : Inquiry) → (writer ≡ writer0) ⊎ ((text : List ℕ) × IsTold (from.tells place) (from.replies place line) inquiry text × IsCutOff text writer0 writer)
+      → IsAnsweredAtMost g opens refuses closes from machine machine writer0 writer (Server place) (said inquiry)
+      ⊎ IsRepliedAtMost g opens refuses closes from machine machine writer0 writer (Server place) line (called inquiry.labels inquiry.form (names_of inquiry.names.now))
+  told_at_most place line inquiry (inl same) = inl (inl (refl, same))
+  told_at_most place line inquiry (inr (text, inl (told, tells, is), cut)) = inl (inr (refl, told, tells, rw (sym is) cut))
+  told_at_most place line inquiry (inr (text, inr (reply, replies, is), cut)) = inr (refl, reply, replies, rw (sym is) cut)
+
+-- what a server told, by what was said of it
+pub told_said : (tells : State → Type 0) (replies : List ℕ → Type 0) (told : Told) (inquiry : Inquiry) (text : List ℕ) → TellsOrReplies tells replies told → IsSaidOf told inquiry text → IsTold tells replies inquiry text
+told_said tells replies (Tables version) inquiry text tells_it is = inl (version, tells_it, is)
+told_said tells replies (Reply reply) inquiry text replies_it is = inr (reply.items, replies_it, is)

@@ -5,3 +5,5 @@ mod Followed
 mod ReadTables
 mod Rehearsals
 mod Applied
+mod Later
+mod Told

@@ -1,5 +1,5 @@
 -- What holds of tables that were read.
-use Rattle.std.proofs.Common.{◌≡◌, ◌⊎◌, Bor, IfOk, inl, inr, ℕ, List, Option, Result, Ok, Err, subst}
+use Rattle.std.proofs.Common.{◌≡◌, ◌⊎◌, Bor, IfOk, inl, inr, ℕ, List, Option, Result, Ok, Err, refl, subst}
 use Rattle.sqlite.specs.Held.{Held}
 use Rattle.sqlite.specs.Store.{Ghosts}
 use Rattle.prt_diff.specs.declared.fence.Fence.{Fence}
@@ -8,37 +8,46 @@ use Rattle.prt_import.specs.declared.accepted.Accepted.{Accepted}
 use Rattle.prt_version.specs.State.{State}
 use Rattle.prt_words.specs.declared.asking.Source.{Source}
 use Rattle.prt_words.specs.declared.reach.Reach.{Reach}
-use Rattle.prt_words.specs.declared.asking.Source.TheVariants.{Script}
+use Rattle.prt_words.specs.declared.server_place.ServerPlace.{ServerPlace}
+use Rattle.prt_words.specs.declared.asking.Source.TheVariants.{Script, Server}
 use Rattle.prt_questions.specs.Analyses.{HaveTables, IsNotRead}
 use Rattle.prt_questions.specs.Asking.{IsAskedOf, IsListing}
 use Rattle.prt_questions.specs.Fencing.{IsFenceOf}
+use Rattle.prt_questions.specs.Sources.{Gives, Sources, path_of}
+use Rattle.prt_questions.specs.declared.machine.Wanted.{Wanted}
 use Rattle.prt_questions.specs.declared.tables.Tables.{Tables}
 use Rattle.prt_questions.proofs.Asked.{asked_more}
 
-module _ {M S : Type 0} (g : Ghosts S) (opens : M → M → List ℕ → Held S → Type 0) (refuses : M → M → List ℕ → Type 0) (closes : M → M → Held S → Type 0) (old new : M) where
+module _ {M S : Type 0} (g : Ghosts S) (opens : Wanted → M → M → List ℕ → Held S → Type 0) (refuses : Wanted → M → M → List ℕ → Type 0) (closes : M → M → Held S → Type 0) (from : Sources) (old new : M) where
   -- it holds of their source
-  pub of_tables : (source : Source) (tables : State) (P : State → Type 0) → HaveTables g opens refuses closes old new source tables → P tables → IsAskedOf g opens refuses closes old new source P
-  of_tables source tables P read holds = asked_more g opens refuses closes old new source (λ state. tables ≡ state) P (λ state is. subst P is holds) read
+  pub of_tables : (source : Source) (tables : State) (P : State → Type 0) → HaveTables g opens refuses closes from old new source tables → P tables → IsAskedOf g opens refuses closes from old new source P
+  of_tables source tables P read holds = asked_more g opens refuses closes from old new source (λ state. tables ≡ state) P (λ state is. subst P is holds) read
 
   -- or they were read for nothing
-  pub read_in_vain : (source : Source) (tables : State) → HaveTables g opens refuses closes old new source tables → IsNotRead g opens refuses closes old new source
-  read_in_vain source tables read = inr (asked_more g opens refuses closes old new source (λ state. tables ≡ state) (λ state. Unit {0}) (λ state is. tt) read)
+  pub read_in_vain : (source : Source) (tables : State) → HaveTables g opens refuses closes from old new source tables → IsNotRead g opens refuses closes from old new source
+  read_in_vain source tables read = inr (asked_more g opens refuses closes from old new source (λ state. tables ≡ state) (λ state. Unit {0}) (λ state is. tt) read)
 
   -- a script's tables touch no database
   pub of_script_tables : {E : Type 0} (file : Option (Bor (List ℕ))) (result : Result Tables E) → new ≡ old
-      → IfOk result (λ tables. (made : Accepted) × (text : List ℕ) × IsExecuted made text × (tables.version ≡ made.version))
-      → IfOk result (λ tables. HaveTables g opens refuses closes old new (Script file) tables.version)
-  of_script_tables file (Ok tables) same made = (same, made.0, made.1, made.2, made.3)
+      → IfOk result (λ tables. (made : Accepted) × (text : List ℕ) × Gives from (path_of file) text × IsExecuted made text × (tables.version ≡ made.version))
+      → IfOk result (λ tables. HaveTables g opens refuses closes from old new (Script file) tables.version)
+  of_script_tables file (Ok tables) same made = (same, made.0, made.1, made.2, made.3, made.4)
   of_script_tables file (Err e) same made = tt
 
+  -- nor do those of a server
+  pub of_server_tables : {E : Type 0} (place : ServerPlace) (result : Result Tables E) → new ≡ old → IfOk result (λ tables. from.tells place tables.version)
+      → IfOk result (λ tables. HaveTables g opens refuses closes from old new (Server place) tables.version)
+  of_server_tables place (Ok tables) same told = (same, tables.version, told, refl)
+  of_server_tables place (Err e) same told = tt
+
   -- what was written of tables that were read, if anything was
-  pub of_tables_at_most : (source : Source) (tables : State) (Unwritten : Type 0) (P : State → Type 0) → HaveTables g opens refuses closes old new source tables → Unwritten ⊎ P tables
-      → (Unwritten × IsNotRead g opens refuses closes old new source) ⊎ IsAskedOf g opens refuses closes old new source P
+  pub of_tables_at_most : (source : Source) (tables : State) (Unwritten : Type 0) (P : State → Type 0) → HaveTables g opens refuses closes from old new source tables → Unwritten ⊎ P tables
+      → (Unwritten × IsNotRead g opens refuses closes from old new source) ⊎ IsAskedOf g opens refuses closes from old new source P
   of_tables_at_most source tables Unwritten P read (inl same) = inl (same, read_in_vain source tables read)
   of_tables_at_most source tables Unwritten P read (inr holds) = inr (of_tables source tables P read holds)
 
 -- a listing, and what was written of it or not
-pub compared_at_most : {U : Type 0} {reach : Reach} (accepted : Accepted) → IsListing accepted → (fence : Fence) → IsFenceOf reach fence → {B : Accepted → Fence → Type 0} → U ⊎ B accepted fence
-    → U ⊎ ((accepted : Accepted) × IsListing accepted × (fence : Fence) × IsFenceOf reach fence × B accepted fence)
+pub compared_at_most : {U : Type 0} {reads : List ℕ → Type 0} {reach : Reach} (accepted : Accepted) → IsListing reads accepted → (fence : Fence) → IsFenceOf reach fence → {B : Accepted → Fence → Type 0} → U ⊎ B accepted fence
+    → U ⊎ ((accepted : Accepted) × IsListing reads accepted × (fence : Fence) × IsFenceOf reach fence × B accepted fence)
 compared_at_most accepted listing fence is (inl same) = inl same
 compared_at_most accepted listing fence is (inr asked) = inr (accepted, listing, fence, is, asked)

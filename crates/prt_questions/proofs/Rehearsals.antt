@@ -17,10 +17,10 @@ pub are_refused : (left : ℕ) → (left ≡ DONE) ⊎ (left ≡ REFUSED) → le
 are_refused left (inl is) other = absurd (other is)
 are_refused left (inr is) other = is
 
-module _ (writer0 writer : Option (List ℕ)) (rehearsing : Rehearsing) (state : State) (made : Accepted) (script : List ℕ) (executed : IsExecutedOver state made script) where
-  pub shows : (status : ℕ) (groups : List Group) → AreGroups (sameness_of rehearsing.exactness) state made.version groups → Appends writer0 writer (impact_text rehearsing.form groups) → (status ≡ DONE → groups ≡ []) → IsRehearsed writer0 writer rehearsing status state
-  shows status groups are appended none = inr (record { made = made; script = script; executed = executed; groups = groups; are = are }, appended, none)
+module _ (reads : List ℕ → Type 0) (writer0 writer : Option (List ℕ)) (rehearsing : Rehearsing) (state : State) (made : Accepted) (script : List ℕ) (read : reads script) (executed : IsExecutedOver state made script) where
+  pub shows : (status : ℕ) (groups : List Group) → AreGroups (sameness_of rehearsing.exactness) state made.version groups → Appends writer0 writer (impact_text rehearsing.form groups) → (status ≡ DONE → groups ≡ []) → IsRehearsed reads writer0 writer rehearsing status state
+  shows status groups are appended none = inr (record { made = made; script = script; read = read; executed = executed; groups = groups; are = are }, appended, none)
 
-  pub shows_at_most : (writer ≡ writer0) ⊎ ((groups : List Group) × AreGroups (sameness_of rehearsing.exactness) state made.version groups × IsCutOff (impact_text rehearsing.form groups) writer0 writer) → IsRehearsedAtMost writer0 writer rehearsing state
+  pub shows_at_most : (writer ≡ writer0) ⊎ ((groups : List Group) × AreGroups (sameness_of rehearsing.exactness) state made.version groups × IsCutOff (impact_text rehearsing.form groups) writer0 writer) → IsRehearsedAtMost reads writer0 writer rehearsing state
   shows_at_most (inl same) = inl same
-  shows_at_most (inr (groups, are, cut)) = inr (record { made = made; script = script; executed = executed; groups = groups; are = are }, cut)
+  shows_at_most (inr (groups, are, cut)) = inr (record { made = made; script = script; read = read; executed = executed; groups = groups; are = are }, cut)

@@ -31,7 +31,9 @@ use Rattle.prt_words.specs.declared.asking.Form.TheVariants.{Json, Lines}
 use Rattle.prt_words.specs.declared.asking.Source.{Source}
 use Rattle.prt_words.specs.declared.fault.TheConstants.{DONE}
 use Rattle.prt_questions.specs.Asking.{IsAskedOf, IsCutOff, IsNotAsked, is_kernels}
+use Rattle.prt_questions.specs.Sources.{Sources}
 use Rattle.prt_questions.specs.declared.asking.TheConstants.{REFUSED}
+use Rattle.prt_questions.specs.declared.machine.Wanted.{Wanted}
 
 -- ---- a change
 
@@ -44,19 +46,21 @@ abbrev pub impact_text : Form → List Group → List ℕ
 impact_text Lines groups = groups_text groups
 impact_text Json groups = json_line (groups_json groups)
 
--- a script was executed over a state, and these are the packets that go another way after it
-pub record Rehearsed (sameness : Sameness) (state : State) : Type 0 where
+-- a script that was read was executed over a state, and these are the packets that go another way after it
+pub record Rehearsed (reads : List ℕ → Type 0) (sameness : Sameness) (state : State) : Type 0 where
   pub made : Accepted
   pub script : List ℕ
+  pub read : reads script
   pub executed : IsExecutedOver state made script
   pub groups : List Group
   pub are : AreGroups sameness state made.version groups
 
 -- a line of the script is refused, and nothing was compared
-pub record IsStopped (rehearsing : Rehearsing) (state : State) : Type 0 where
+pub record IsStopped (reads : List ℕ → Type 0) (rehearsing : Rehearsing) (state : State) : Type 0 where
   pub stops : rehearsing.on_refusal ≡ Stop
   pub made : Accepted
   pub script : List ℕ
+  pub read : reads script
   pub executed : IsExecutedOver state made script
   pub refused : list_all is_kernels made.left.items ≡ false
 
@@ -71,38 +75,40 @@ breaches_text explained state breaches = flat_map (breach_lines explained state)
 
 -- ---- what is written
 
-module _ (writer0 writer : Option (List ℕ)) where
+-- of the script or the claims that were read
+module _ (reads : List ℕ → Type 0) (writer0 writer : Option (List ℕ)) where
   -- all groups were written; with status 0 there are none
   abbrev pub ShowsImpact : Rehearsing → (status : ℕ) → State → Type 0
   ShowsImpact rehearsing status state =
-      (rehearsed : Rehearsed (sameness_of rehearsing.exactness) state)
+      (rehearsed : Rehearsed reads (sameness_of rehearsing.exactness) state)
       × Appends writer0 writer (impact_text rehearsing.form rehearsed.groups)
       × (status ≡ DONE → rehearsed.groups ≡ [])
 
   -- or nothing was written, since a line of the script is refused; then the status is 1
   abbrev pub IsRehearsed : Rehearsing → (status : ℕ) → State → Type 0
   IsRehearsed rehearsing status state =
-      (IsStopped rehearsing state × (writer ≡ writer0) × (status ≡ REFUSED))
+      (IsStopped reads rehearsing state × (writer ≡ writer0) × (status ≡ REFUSED))
       ⊎ ShowsImpact rehearsing status state
 
   -- in any case: nothing was written, or a part at most
   abbrev pub IsRehearsedAtMost : Rehearsing → State → Type 0
   IsRehearsedAtMost rehearsing state =
       (writer ≡ writer0)
-      ⊎ ((rehearsed : Rehearsed (sameness_of rehearsing.exactness) state) × IsCutOff (impact_text rehearsing.form rehearsed.groups) writer0 writer)
+      ⊎ ((rehearsed : Rehearsed reads (sameness_of rehearsing.exactness) state) × IsCutOff (impact_text rehearsing.form rehearsed.groups) writer0 writer)
 
   -- each claim of a text that doesn't hold was written, with a packet; with status 0 there are none
   abbrev pub IsAsserted : Asserting → (status : ℕ) → State → Type 0
   IsAsserted asserting status state =
-      (text : List ℕ) × (checked : Checked) × IsChecked state text checked × (checked.bad.items ≡ [])
+      (text : List ℕ) × reads text × (checked : Checked) × IsChecked state text checked × (checked.bad.items ≡ [])
       × Appends writer0 writer (breaches_text asserting.is_explained state checked.breaches.items)
       × (status ≡ DONE → checked.breaches.items ≡ [])
 
   abbrev pub IsAssertedAtMost : Asserting → State → Type 0
   IsAssertedAtMost asserting state =
       (writer ≡ writer0)
-      ⊎ ((text : List ℕ) × (checked : Checked) × IsChecked state text checked × IsCutOff (breaches_text asserting.is_explained state checked.breaches.items) writer0 writer)
+      ⊎ ((text : List ℕ) × reads text × (checked : Checked) × IsChecked state text checked × IsCutOff (breaches_text asserting.is_explained state checked.breaches.items) writer0 writer)
 
+module _ (writer0 writer : Option (List ℕ)) where
   -- all unused rules and routes were written; with status 0 there are none
   abbrev pub IsSearched : (status : ℕ) → State → Type 0
   IsSearched status state =
@@ -116,19 +122,19 @@ module _ (writer0 writer : Option (List ℕ)) where
 
 -- ---- of the tables of a source
 
-module _ {M S : Type 0} (g : Ghosts S) (opens : M → M → List ℕ → Held S → Type 0) (refuses : M → M → List ℕ → Type 0) (closes : M → M → Held S → Type 0) (old new : M) where
+module _ {M S : Type 0} (g : Ghosts S) (opens : Wanted → M → M → List ℕ → Held S → Type 0) (refuses : Wanted → M → M → List ℕ → Type 0) (closes : M → M → Held S → Type 0) (from : Sources) (old new : M) where
   -- the tables of a source were read
   abbrev pub HaveTables : Source → State → Type 0
-  HaveTables source tables = IsAskedOf g opens refuses closes old new source (λ state. tables ≡ state)
+  HaveTables source tables = IsAskedOf g opens refuses closes from old new source (λ state. tables ≡ state)
 
   -- they were not, or memory was refused after that
   abbrev pub IsNotRead : Source → Type 0
-  IsNotRead source = IsNotAsked g opens refuses closes old new source ⊎ IsAskedOf g opens refuses closes old new source (λ state. Unit {0})
+  IsNotRead source = IsNotAsked g opens refuses closes old new source ⊎ IsAskedOf g opens refuses closes from old new source (λ state. Unit {0})
 
   -- this holds of them and of what was written
   abbrev pub IsFoundOf : Source → (State → Type 0) → Type 0
-  IsFoundOf source Holds = IsAskedOf g opens refuses closes old new source Holds
+  IsFoundOf source Holds = IsAskedOf g opens refuses closes from old new source Holds
 
   -- in any case: they were not read, and nothing was written; or this holds
   abbrev pub IsFoundAtMost : (writer0 writer : Option (List ℕ)) → Source → (State → Type 0) → Type 0
-  IsFoundAtMost writer0 writer source Holds = (IsNotRead source × (writer ≡ writer0)) ⊎ IsAskedOf g opens refuses closes old new source Holds
+  IsFoundAtMost writer0 writer source Holds = (IsNotRead source × (writer ≡ writer0)) ⊎ IsAskedOf g opens refuses closes from old new source Holds

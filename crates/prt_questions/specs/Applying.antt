@@ -22,6 +22,9 @@ use Rattle.prt_words.specs.declared.service.Target.{Target}
 use Rattle.prt_words.specs.declared.service.Target.TheVariants.{Database, Server}
 use Rattle.prt_questions.specs.Asking.{AreKernels, IsCutOff, IsNotOpened, comments_of}
 use Rattle.prt_questions.specs.Closing.{IsClosedAgain}
+use Rattle.prt_questions.specs.Sources.{Gives, Sources, path_of}
+use Rattle.prt_questions.specs.declared.machine.Wanted.{Wanted}
+use Rattle.prt_questions.specs.declared.machine.Wanted.TheVariants.{Any, Ours}
 
 -- ---- what is printed
 
@@ -69,35 +72,43 @@ abbrev pub MakesAtMost : {S : Type 0} → Ghosts S → (shows : Bool) → (wante
 MakesAtMost g shows wanted writer0 writer first last =
     (begun : Standing (Held _)) × OpensOne g (λ was. was ≡ first) begun × Leaves g begun last × IsPrintedAtMost shows (line_state begun.line) wanted writer0 writer
 
+-- which database is opened: changes that are only printed make none
+abbrev pub wanted_by : (is_dry_run : Bool) → Wanted
+wanted_by true = Ours
+wanted_by false = Any
+
 -- the tables at a path were made these, and what was printed says how
-abbrev pub IsMadeAt : {M S : Type 0} → Ghosts S → (opens : M → M → List ℕ → Held S → Type 0) → (closes : M → M → Held S → Type 0) → (old new : M) → (writer0 writer : Option (List ℕ)) → (path : List ℕ) → (shows is_dry_run : Bool) → (wanted : State) → Type 0
-IsMadeAt g opens closes old new writer0 writer path shows is_dry_run wanted = IsClosedAgain opens closes (Makes g shows is_dry_run wanted writer0 writer) old new path
+abbrev pub IsMadeAt : {M S : Type 0} → Ghosts S → (opens : Wanted → M → M → List ℕ → Held S → Type 0) → (closes : M → M → Held S → Type 0) → (old new : M) → (writer0 writer : Option (List ℕ)) → (path : List ℕ) → (shows is_dry_run : Bool) → (wanted : State) → Type 0
+IsMadeAt g opens closes old new writer0 writer path shows is_dry_run wanted = IsClosedAgain (opens (wanted_by is_dry_run)) closes (Makes g shows is_dry_run wanted writer0 writer) old new path
 
--- what a script makes of a new database, none of whose lines is refused
-abbrev pub IsScript : Accepted → Type 0
-IsScript made = (text : List ℕ) × IsExecuted made text × AreKernels made.left.items
+-- what a script that was read makes of a new database, none of whose lines is refused
+abbrev pub IsScript : (reads : List ℕ → Type 0) → Accepted → Type 0
+IsScript reads made = (text : List ℕ) × reads text × IsExecuted made text × AreKernels made.left.items
 
-module _ {M S : Type 0} (g : Ghosts S) (opens : M → M → List ℕ → Held S → Type 0) (refuses : M → M → List ℕ → Type 0) (closes : M → M → Held S → Type 0) (old new : M) (writer0 writer : Option (List ℕ)) where
+module _ {M S : Type 0} (g : Ghosts S) (opens : Wanted → M → M → List ℕ → Held S → Type 0) (refuses : Wanted → M → M → List ℕ → Type 0) (closes : M → M → Held S → Type 0) (old new : M) (writer0 writer : Option (List ℕ)) where
   -- in any case: the database could not be opened and nothing was printed, or a part at most
-  abbrev pub IsMadeAtMost : (path : List ℕ) (shows : Bool) → (wanted : State) → Type 0
-  IsMadeAtMost path shows wanted =
-      (IsNotOpened g opens refuses closes old new path × (writer ≡ writer0))
-      ⊎ IsClosedAgain opens closes (MakesAtMost g shows wanted writer0 writer) old new path
+  abbrev pub IsMadeAtMost : (path : List ℕ) (shows is_dry_run : Bool) → (wanted : State) → Type 0
+  IsMadeAtMost path shows is_dry_run wanted =
+      (IsNotOpened g opens refuses closes old new (wanted_by is_dry_run) path × (writer ≡ writer0))
+      ⊎ IsClosedAgain (opens (wanted_by is_dry_run)) closes (MakesAtMost g shows wanted writer0 writer) old new path
 
+module _ {M S : Type 0} (g : Ghosts S) (opens : Wanted → M → M → List ℕ → Held S → Type 0) (refuses : Wanted → M → M → List ℕ → Type 0) (closes : M → M → Held S → Type 0) (from : Sources) (old new : M) (writer0 writer : Option (List ℕ)) where
   -- the tables of a target were made these; of a server this is what it told before
   abbrev pub IsAppliedTo : Target → (shows is_dry_run : Bool) → (wanted : State) → Type 0
   IsAppliedTo (Database path) shows is_dry_run wanted = IsMadeAt g opens closes old new writer0 writer path.now shows is_dry_run wanted
-  IsAppliedTo (Server ends) shows is_dry_run wanted = (new ≡ old) × ((told : State) × IsPrinted shows told wanted writer0 writer)
+  IsAppliedTo (Server ends) shows is_dry_run wanted = (new ≡ old) × ((told : State) × from.tells ends.feed told × IsPrinted shows told wanted writer0 writer)
 
   -- in any case
-  abbrev pub IsAppliedAtMost : Target → (shows : Bool) → (wanted : State) → Type 0
-  IsAppliedAtMost (Database path) shows wanted = IsMadeAtMost path.now shows wanted
-  IsAppliedAtMost (Server ends) shows wanted = (new ≡ old) × ((told : State) × IsPrintedAtMost shows told wanted writer0 writer)
+  abbrev pub IsAppliedAtMost : Target → (shows is_dry_run : Bool) → (wanted : State) → Type 0
+  IsAppliedAtMost (Database path) shows is_dry_run wanted = IsMadeAtMost g opens refuses closes old new writer0 writer path.now shows is_dry_run wanted
+  IsAppliedAtMost (Server ends) shows is_dry_run wanted = (new ≡ old) × ((writer ≡ writer0) ⊎ ((told : State) × from.tells ends.feed told × IsPrintedAtMost shows told wanted writer0 writer))
 
   -- the tables were made what the script makes
   abbrev pub HasApplied : Applying → Type 0
-  HasApplied applying = (made : Accepted) × IsScript made × IsAppliedTo applying.target applying.has_impact applying.is_dry_run made.version
+  HasApplied applying = (made : Accepted) × IsScript (Gives from (path_of applying.file)) made × IsAppliedTo applying.target applying.has_impact applying.is_dry_run made.version
 
   -- in any case: a line of the script is refused, or it can't be read, and nothing was done; or it was applied at most
   abbrev pub HasAppliedAtMost : Applying → Type 0
-  HasAppliedAtMost applying = ((new ≡ old) × (writer ≡ writer0)) ⊎ ((made : Accepted) × IsScript made × IsAppliedAtMost applying.target applying.has_impact made.version)
+  HasAppliedAtMost applying =
+      ((new ≡ old) × (writer ≡ writer0))
+      ⊎ ((made : Accepted) × IsScript (Gives from (path_of applying.file)) made × IsAppliedAtMost applying.target applying.has_impact applying.is_dry_run made.version)

@@ -1,5 +1,5 @@
 -- What comes of a question.
-use Rattle.std.specs.Prelude.{◌≡◌, ◌⊎◌, ℕ, Bool, true, false, List, [], ◌++◌, Ok, Option, Some, None, codes, flat_map}
+use Rattle.std.specs.Prelude.{◌≡◌, ◌⊎◌, ℕ, Bool, true, false, List, [], ◌++◌, Ok, Option, Some, None, codes, flat_map, option_map}
 use Rattle.std.specs.List.{list_all}
 use Rattle.std.specs.Io.KnownBytes.{Appends}
 use Rattle.sqlite.specs.Held.{Held}
@@ -29,6 +29,8 @@ use Rattle.prt_import.specs.declared.naming.Text.{Text}
 use Rattle.prt_import.specs.declared.naming.Text.TheVariants as forms
 use Rattle.prt_import.specs.declared.reason.Reason.{Reason}
 use Rattle.prt_import.specs.declared.reason.Reason.TheVariants.{Kernel}
+use Rattle.prt_ip_json.specs.Documents.{documents, is_json}
+use Rattle.prt_ip_json.specs.Listing.{listing}
 use Rattle.prt_partition.specs.declared.sameness.Sameness.TheVariants.{Outcomes}
 use Rattle.prt_refusals.specs.declared.refusal.Refusal.{Refusal}
 use Rattle.prt_publisher.specs.Openings.{HasOpened}
@@ -45,9 +47,13 @@ use Rattle.prt_words.specs.declared.asking.Shown.TheVariants.{Impact, Lines, Sta
 use Rattle.prt_words.specs.declared.asking.Source.{Source}
 use Rattle.prt_words.specs.declared.asking.Source.TheVariants.{Database, Server, Script}
 use Rattle.prt_words.specs.declared.reach.Reach.{Reach}
+use Rattle.prt_words.specs.declared.server_place.ServerPlace.{ServerPlace}
 use Rattle.prt_questions.specs.Fencing.{IsFenceOf}
 use Rattle.prt_questions.specs.Closing.{IsClosedAgain, LeavesNoneOpen}
+use Rattle.prt_questions.specs.Sources.{Gives, Sources, after, path_of, rest_after}
 use Rattle.prt_questions.specs.declared.inquiry.Inquiry.{Inquiry}
+use Rattle.prt_questions.specs.declared.machine.Wanted.{Wanted}
+use Rattle.prt_questions.specs.declared.machine.Wanted.TheVariants.{Ours}
 
 -- ---- what is said
 
@@ -63,9 +69,9 @@ called Names form names text = with_names (text_form form) names text
 abbrev pub said : Inquiry → State → List ℕ
 said inquiry state = called inquiry.labels inquiry.form (names_of inquiry.names.now) (answer inquiry.question state)
 
--- what a server says to an inquiry: the answer of its tables, or the reply of a session, with tables called as it asks
-abbrev pub IsTold : Inquiry → List ℕ → Type 0
-IsTold inquiry text = ((told : State) × (text ≡ said inquiry told)) ⊎ ((reply : List ℕ) × (text ≡ called inquiry.labels inquiry.form (names_of inquiry.names.now) reply))
+-- what a server says to an inquiry: the answer of the tables that it told, or what it replied, with tables called as it asks
+abbrev pub IsTold : (tells : State → Type 0) → (replies : List ℕ → Type 0) → Inquiry → List ℕ → Type 0
+IsTold tells replies inquiry text = ((told : State) × tells told × (text ≡ said inquiry told)) ⊎ ((reply : List ℕ) × replies reply × (text ≡ called inquiry.labels inquiry.form (names_of inquiry.names.now) reply))
 
 -- nothing was written, or a part of this text
 abbrev pub IsCutOff : List ℕ → (writer0 writer : Option (List ℕ)) → Type 0
@@ -79,13 +85,26 @@ destination_of question = None
 
 -- ---- what `ip` printed
 
--- What a new database accepts of the script of a text, with some names of tables.
-pub record IsListing (accepted : Accepted) : Type 0 where
+-- the lines of what it printed: all of it, or those that its JSON stands for
+abbrev pub AreLinesOf : (text lines : List ℕ) → Type 0
+AreLinesOf text lines =
+    ((is_json text ≡ true) × (option_map listing (documents text) ≡ Some lines))
+    ⊎ ((is_json text ≡ false) × (lines ≡ text))
+
+-- What a new database accepts of the script of lines, with some names of tables.
+pub record IsMadeOf (lines : List ℕ) (accepted : Accepted) : Type 0 where
   pub names : KnownNames
-  pub text : List ℕ
   pub imported : Imported
-  pub is_of : IsImportOf imported names text
+  pub is_of : IsImportOf imported names lines
   pub executed : IsExecuted accepted imported.script.items
+
+-- What one accepts of a text that was read.
+pub record IsListing (reads : List ℕ → Type 0) (accepted : Accepted) : Type 0 where
+  pub text : List ℕ
+  pub read : reads text
+  pub lines : List ℕ
+  pub are : AreLinesOf text lines
+  pub made : IsMadeOf lines accepted
 
 abbrev pub is_kernel : Reason → Bool
 is_kernel Kernel = true
@@ -99,13 +118,13 @@ is_kernels line = is_kernel line.reason
 abbrev pub AreKernels : List Left → Type 0
 AreKernels lines = list_all is_kernels lines ≡ true
 
--- all of it is kept
-abbrev pub IsKept : (accepted : Accepted) → IsListing accepted → Type 0
-IsKept accepted listing = AreKernels listing.imported.left.items × AreKernels accepted.left.items
+-- all of them are kept
+abbrev pub AreKept : (lines : List ℕ) → (accepted : Accepted) → Type 0
+AreKept lines accepted = (made : IsMadeOf lines accepted) × AreKernels made.imported.left.items × AreKernels accepted.left.items
 
 -- a listing that is kept
-abbrev pub IsWholeListing : Accepted → Type 0
-IsWholeListing accepted = (listing : IsListing accepted) × IsKept accepted listing
+abbrev pub IsWholeListing : (reads : List ℕ → Type 0) → Accepted → Type 0
+IsWholeListing reads accepted = (text : List ℕ) × reads text × (lines : List ℕ) × AreLinesOf text lines × AreKept lines accepted
 
 -- ---- the packets that a difference sends another way
 
@@ -135,68 +154,70 @@ abbrev pub follow_text : Fence → State → State → List Command → List ℕ
 follow_text fence found wanted commands = changes_text fence found wanted ++ steps_text (mirror_of fence found wanted) commands
 
 -- a listing that is kept was brought to the tables that a feed reported
-abbrev pub HasFollowed : (writer0 writer : Option (List ℕ)) → Reach → Type 0
-HasFollowed writer0 writer reach =
-    (accepted : Accepted) × IsWholeListing accepted × (fence : Fence) × IsFenceOf reach fence × (told : State)
+abbrev pub HasFollowed : Sources → (writer0 writer : Option (List ℕ)) → Option Word → ServerPlace → Reach → Type 0
+HasFollowed from writer0 writer file place reach =
+    (accepted : Accepted) × IsWholeListing (Gives from file) accepted × (fence : Fence) × IsFenceOf reach fence × (told : State) × from.tells place told
     × Appends writer0 writer (changes_text fence accepted.version told)
 
 -- In any case: nothing was written, or at most a part of the lines. These are for the tables that a feed reported, and for the
 -- commands that it reported in turn.
-abbrev pub HasFollowedAtMost : (writer0 writer : Option (List ℕ)) → Reach → Type 0
-HasFollowedAtMost writer0 writer reach =
+abbrev pub HasFollowedAtMost : Sources → (writer0 writer : Option (List ℕ)) → Option Word → ServerPlace → Reach → Type 0
+HasFollowedAtMost from writer0 writer file place reach =
     (writer ≡ writer0)
-    ⊎ ((accepted : Accepted) × IsListing accepted × (fence : Fence) × IsFenceOf reach fence × (told : State) × (commands : List Command)
+    ⊎ ((accepted : Accepted) × IsListing (Gives from file) accepted × (fence : Fence) × IsFenceOf reach fence × (told : State) × from.tells place told × (commands : List Command)
     × IsAccepted told commands × Written false writer0 writer (follow_text fence accepted.version told commands))
 
 -- ---- what was done
 
-module _ {M S : Type 0} (g : Ghosts S) (opens : M → M → List ℕ → Held S → Type 0) (refuses : M → M → List ℕ → Type 0) (closes : M → M → Held S → Type 0) (old new : M) where
-  -- The database at a path was opened and closed, and this holds of its state. No other was touched.
+module _ {M S : Type 0} (g : Ghosts S) (opens : Wanted → M → M → List ℕ → Held S → Type 0) (refuses : Wanted → M → M → List ℕ → Type 0) (closes : M → M → Held S → Type 0) (old new : M) where
+  -- The database at a path, which was there, was opened and closed, and this holds of its state. No other was touched, and none made.
   abbrev pub IsAskedAt : List ℕ → (State → Type 0) → Type 0
-  IsAskedAt path Holds = IsClosedAgain opens closes (λ first last. (stored : State) × HasOpened g first last stored × Holds stored) old new path
+  IsAskedAt path Holds = IsClosedAgain (opens Ours) closes (λ first last. (stored : State) × HasOpened g first last stored × Holds stored) old new path
 
-  -- no database was touched, or the one at a path could not be opened
-  abbrev pub IsNotOpened : List ℕ → Type 0
-  IsNotOpened path = (new ≡ old) ⊎ ((reason : Refusal) × LeavesNoneOpen opens refuses closes g reason old new path)
-
-  -- The state at a source was asked, and this holds of it: that of a database, one that a server told, or what a script makes of a new database.
-  abbrev pub IsAskedOf : Source → (State → Type 0) → Type 0
-  IsAskedOf (Database path) Holds = IsAskedAt path.now Holds
-  IsAskedOf (Server place) Holds = (new ≡ old) × (told : State) × Holds told
-  IsAskedOf (Script file) Holds = (new ≡ old) × (made : Accepted) × (text : List ℕ) × IsExecuted made text × Holds made.version
+  -- no database was touched, or the one at a path could not be opened as it is wanted
+  abbrev pub IsNotOpened : Wanted → List ℕ → Type 0
+  IsNotOpened wanted path = (new ≡ old) ⊎ ((reason : Refusal) × LeavesNoneOpen (opens wanted) (refuses wanted) closes g reason old new path)
 
   abbrev pub IsNotAsked : Source → Type 0
-  IsNotAsked (Database path) = IsNotOpened path.now
+  IsNotAsked (Database path) = IsNotOpened Ours path.now
   IsNotAsked source = new ≡ old
 
-module _ {M S : Type 0} (g : Ghosts S) (opens : M → M → List ℕ → Held S → Type 0) (refuses : M → M → List ℕ → Type 0) (closes : M → M → Held S → Type 0) (old new : M) (writer0 writer : Option (List ℕ)) where
+module _ {M S : Type 0} (g : Ghosts S) (opens : Wanted → M → M → List ℕ → Held S → Type 0) (refuses : Wanted → M → M → List ℕ → Type 0) (closes : M → M → Held S → Type 0) (from : Sources) (old new : M) where
+  -- The state at a source was asked, and this holds of it: that of a database, one that a server told, or what the script that
+  -- was read makes of a new database.
+  abbrev pub IsAskedOf : Source → (State → Type 0) → Type 0
+  IsAskedOf (Database path) Holds = IsAskedAt g opens refuses closes old new path.now Holds
+  IsAskedOf (Server place) Holds = (new ≡ old) × (told : State) × from.tells place told × Holds told
+  IsAskedOf (Script file) Holds = (new ≡ old) × (made : Accepted) × (text : List ℕ) × Gives from (path_of file) text × IsExecuted made text × Holds made.version
+
+module _ {M S : Type 0} (g : Ghosts S) (opens : Wanted → M → M → List ℕ → Held S → Type 0) (refuses : Wanted → M → M → List ℕ → Type 0) (closes : M → M → Held S → Type 0) (from : Sources) (old new : M) (writer0 writer : Option (List ℕ)) where
   -- all that the state at a source says was written, and no line of a script was left out, except what the kernel makes itself
   abbrev pub IsAnswered : Source → (says : State → List ℕ) → Type 0
-  IsAnswered (Script file) says = (new ≡ old) × (made : Accepted) × (text : List ℕ) × IsExecuted made text × AreKernels made.left.items × Appends writer0 writer (says made.version)
-  IsAnswered source says = IsAskedOf g opens refuses closes old new source (λ state. Appends writer0 writer (says state))
+  IsAnswered (Script file) says = (new ≡ old) × (made : Accepted) × (text : List ℕ) × Gives from (path_of file) text × IsExecuted made text × AreKernels made.left.items × Appends writer0 writer (says made.version)
+  IsAnswered source says = IsAskedOf g opens refuses closes from old new source (λ state. Appends writer0 writer (says state))
 
   -- in any case: it was not asked, and nothing was written; or it was, and a part at most
   abbrev pub IsAnsweredAtMost : Source → (says : State → List ℕ) → Type 0
   IsAnsweredAtMost source says =
       (IsNotAsked g opens refuses closes old new source × (writer ≡ writer0))
-      ⊎ IsAskedOf g opens refuses closes old new source (λ state. IsCutOff (says state) writer0 writer)
+      ⊎ IsAskedOf g opens refuses closes from old new source (λ state. IsCutOff (says state) writer0 writer)
 
-  -- a session of a server replied, and all of its reply was written, by this way of calling tables
-  abbrev pub IsReplied : Source → (calls : List ℕ → List ℕ) → Type 0
-  IsReplied (Server place) calls = (new ≡ old) × (reply : List ℕ) × Appends writer0 writer (calls reply)
-  IsReplied source calls = ⊥
+  -- a session of a server replied to a line, and all of its reply was written, by this way of calling tables
+  abbrev pub IsReplied : Source → (line : List ℕ) → (calls : List ℕ → List ℕ) → Type 0
+  IsReplied (Server place) line calls = (new ≡ old) × (reply : List ℕ) × from.replies place line reply × Appends writer0 writer (calls reply)
+  IsReplied source line calls = ⊥
 
   -- and in any case, a part of it at most
-  abbrev pub IsRepliedAtMost : Source → (calls : List ℕ → List ℕ) → Type 0
-  IsRepliedAtMost (Server place) calls = (new ≡ old) × (reply : List ℕ) × IsCutOff (calls reply) writer0 writer
-  IsRepliedAtMost source calls = ⊥
+  abbrev pub IsRepliedAtMost : Source → (line : List ℕ) → (calls : List ℕ → List ℕ) → Type 0
+  IsRepliedAtMost (Server place) line calls = (new ≡ old) × (reply : List ℕ) × from.replies place line reply × IsCutOff (calls reply) writer0 writer
+  IsRepliedAtMost source line calls = ⊥
 
   -- a question was asked, and all of its answer was written
   abbrev pub HasAnswered : Asking → Type 0
   HasAnswered asking =
       (asked : Question) × (question asking.verb asking.line.items asking.form ≡ Ok asked)
       × (names : TableNames) × (IsAnswered asking.source (λ state. called asking.labels asking.form names (answer asked state))
-      ⊎ IsReplied asking.source (called asking.labels asking.form names))
+      ⊎ IsReplied asking.source asking.line.items (called asking.labels asking.form names))
 
   -- in any case: its words ask nothing, or it was answered in part at most
   abbrev pub HasAnsweredAtMost : Asking → Type 0
@@ -204,20 +225,34 @@ module _ {M S : Type 0} (g : Ghosts S) (opens : M → M → List ℕ → Held S 
       (IsNotAsked g opens refuses closes old new asking.source × (writer ≡ writer0))
       ⊎ ((asked : Question) × (question asking.verb asking.line.items asking.form ≡ Ok asked)
       × (names : TableNames) × (IsAnsweredAtMost asking.source (λ state. called asking.labels asking.form names (answer asked state))
-      ⊎ IsRepliedAtMost asking.source (called asking.labels asking.form names)))
+      ⊎ IsRepliedAtMost asking.source asking.line.items (called asking.labels asking.form names)))
 
+-- A listing is read first, and then the tables at a source: of the input what is left.
+module _ {M S : Type 0} (g : Ghosts S) (opens : Wanted → M → M → List ℕ → Held S → Type 0) (refuses : Wanted → M → M → List ℕ → Type 0) (closes : M → M → Held S → Type 0) (from : Sources) (old new : M) (writer0 writer : Option (List ℕ)) where
   -- what differs from the state of a listing was written, or nothing differs
-  abbrev pub HasCompared : Reach → Shown → Source → Type 0
-  HasCompared reach Lines source = (accepted : Accepted) × IsWholeListing accepted × (fence : Fence) × IsFenceOf reach fence × IsAnswered source (changes_text fence accepted.version)
-  HasCompared reach Impact source = (accepted : Accepted) × IsWholeListing accepted × (fence : Fence) × IsFenceOf reach fence × IsAskedOf g opens refuses closes old new source (λ state. (text : List ℕ) × IsWithImpact fence accepted.version state text × Appends writer0 writer text)
-  HasCompared reach Status source = (accepted : Accepted) × IsWholeListing accepted × (fence : Fence) × IsFenceOf reach fence × (writer ≡ writer0) × IsAskedOf g opens refuses closes old new source (λ state. changes_text fence accepted.version state ≡ [])
+  abbrev pub HasCompared : Option Word → Reach → Shown → Source → Type 0
+  HasCompared file reach Lines source =
+      (accepted : Accepted) × IsWholeListing (Gives from file) accepted × (fence : Fence) × IsFenceOf reach fence
+      × IsAnswered g opens refuses closes (after (rest_after file) from) old new writer0 writer source (changes_text fence accepted.version)
+  HasCompared file reach Impact source =
+      (accepted : Accepted) × IsWholeListing (Gives from file) accepted × (fence : Fence) × IsFenceOf reach fence
+      × IsAskedOf g opens refuses closes (after (rest_after file) from) old new source (λ state. (text : List ℕ) × IsWithImpact fence accepted.version state text × Appends writer0 writer text)
+  HasCompared file reach Status source =
+      (accepted : Accepted) × IsWholeListing (Gives from file) accepted × (fence : Fence) × IsFenceOf reach fence
+      × (writer ≡ writer0) × IsAskedOf g opens refuses closes (after (rest_after file) from) old new source (λ state. changes_text fence accepted.version state ≡ [])
+
+  -- tables were asked after a listing was read, or not
+  abbrev pub IsComparedOrNot : Option Word → Source → Type 0
+  IsComparedOrNot file source = IsNotAsked g opens refuses closes old new source ⊎ IsAskedOf g opens refuses closes (after (rest_after file) from) old new source (λ state. Unit {0})
 
   -- In any case: there was no listing, or a part at most was written of what differs from it. A status alone writes nothing.
-  abbrev pub HasComparedAtMost : Reach → Shown → Source → Type 0
-  HasComparedAtMost reach Lines source =
+  abbrev pub HasComparedAtMost : Option Word → Reach → Shown → Source → Type 0
+  HasComparedAtMost file reach Lines source =
       (IsNotAsked g opens refuses closes old new source × (writer ≡ writer0))
-      ⊎ ((accepted : Accepted) × IsListing accepted × (fence : Fence) × IsFenceOf reach fence × IsAnsweredAtMost source (changes_text fence accepted.version))
-  HasComparedAtMost reach Impact source =
-      (writer ≡ writer0) × (IsNotAsked g opens refuses closes old new source ⊎ IsAskedOf g opens refuses closes old new source (λ state. Unit {0}))
-      ⊎ ((accepted : Accepted) × IsListing accepted × (fence : Fence) × IsFenceOf reach fence × IsAskedOf g opens refuses closes old new source (λ state. (text : List ℕ) × IsWithImpact fence accepted.version state text × IsCutOff text writer0 writer))
-  HasComparedAtMost reach Status source = (writer ≡ writer0) × (IsNotAsked g opens refuses closes old new source ⊎ IsAskedOf g opens refuses closes old new source (λ state. Unit {0}))
+      ⊎ ((accepted : Accepted) × IsListing (Gives from file) accepted × (fence : Fence) × IsFenceOf reach fence
+      × IsAnsweredAtMost g opens refuses closes (after (rest_after file) from) old new writer0 writer source (changes_text fence accepted.version))
+  HasComparedAtMost file reach Impact source =
+      (writer ≡ writer0) × IsComparedOrNot file source
+      ⊎ ((accepted : Accepted) × IsListing (Gives from file) accepted × (fence : Fence) × IsFenceOf reach fence
+      × IsAskedOf g opens refuses closes (after (rest_after file) from) old new source (λ state. (text : List ℕ) × IsWithImpact fence accepted.version state text × IsCutOff text writer0 writer))
+  HasComparedAtMost file reach Status source = (writer ≡ writer0) × IsComparedOrNot file source

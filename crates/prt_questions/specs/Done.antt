@@ -1,5 +1,5 @@
 -- What was done for a question, by the exit status.
-use Rattle.std.specs.Prelude.{◌≡◌, ℕ, List, Option, option_map}
+use Rattle.std.specs.Prelude.{◌≡◌, ℕ, List, Option}
 use Rattle.sqlite.specs.Held.{Held}
 use Rattle.sqlite.specs.Store.{Ghosts}
 use Rattle.prt_words.specs.declared.asking.Asked.{Asked}
@@ -9,38 +9,40 @@ use Rattle.prt_questions.specs.Analyses.{IsAsserted, IsAssertedAtMost, IsFoundAt
 use Rattle.prt_questions.specs.Asking.{HasAnswered, HasAnsweredAtMost, HasCompared, HasComparedAtMost, HasFollowed, HasFollowedAtMost}
 use Rattle.prt_questions.specs.Applying.{HasApplied, HasAppliedAtMost}
 use Rattle.prt_questions.specs.Importing.{HasImported, HasImportedAtMost}
+use Rattle.prt_questions.specs.Sources.{Gives, Sources, after, path_of, rest_by}
 use Rattle.prt_questions.specs.declared.asking.TheConstants.{REFUSED}
+use Rattle.prt_questions.specs.declared.machine.Wanted.{Wanted}
 
-module _ {M S : Type 0} (g : Ghosts S) (opens : M → M → List ℕ → Held S → Type 0) (refuses : M → M → List ℕ → Type 0) (closes : M → M → Held S → Type 0) (old new : M) (writer0 writer : Option (List ℕ)) where
+module _ {M S : Type 0} (g : Ghosts S) (opens : Wanted → M → M → List ℕ → Held S → Type 0) (refuses : Wanted → M → M → List ℕ → Type 0) (closes : M → M → Held S → Type 0) (from : Sources) (old new : M) (writer0 writer : Option (List ℕ)) where
   -- what was asked is done, if the exit status is 0
   abbrev pub IsDone : Asked → Type 0
-  IsDone (Tables asking) = HasAnswered g opens refuses closes old new writer0 writer asking
-  IsDone (Diff diffing) = HasCompared g opens refuses closes old new writer0 writer diffing.reach diffing.shown diffing.source
-  IsDone (Follow following) = (new ≡ old) × HasFollowed writer0 writer following.reach
+  IsDone (Tables asking) = HasAnswered g opens refuses closes from old new writer0 writer asking
+  IsDone (Diff diffing) = HasCompared g opens refuses closes from old new writer0 writer (path_of diffing.file) diffing.reach diffing.shown diffing.source
+  IsDone (Follow following) = (new ≡ old) × HasFollowed from writer0 writer (path_of following.file) following.server following.reach
   IsDone (Wait waiting) = (new ≡ old) × (writer ≡ writer0)
-  IsDone (Import importing) = HasImported g opens refuses closes old new writer0 writer (option_map (λ path. path.now) importing.database)
-  IsDone (Impact rehearsing) = IsFoundOf g opens refuses closes old new rehearsing.source (IsRehearsed writer0 writer rehearsing DONE)
-  IsDone (Assert asserting) = IsFoundOf g opens refuses closes old new asserting.source (IsAsserted writer0 writer asserting DONE)
-  IsDone (Unused source) = IsFoundOf g opens refuses closes old new source (IsSearched writer0 writer DONE)
-  IsDone (Apply applying) = HasApplied g opens refuses closes old new writer0 writer applying
+  IsDone (Import importing) = HasImported g opens refuses closes from old new writer0 writer (path_of importing.file) (path_of importing.database)
+  IsDone (Impact rehearsing) = IsFoundOf g opens refuses closes from old new rehearsing.source (IsRehearsed (Gives (after (rest_by rehearsing.source) from) (path_of rehearsing.file)) writer0 writer rehearsing DONE)
+  IsDone (Assert asserting) = IsFoundOf g opens refuses closes from old new asserting.source (IsAsserted (Gives (after (rest_by asserting.source) from) (path_of asserting.file)) writer0 writer asserting DONE)
+  IsDone (Unused source) = IsFoundOf g opens refuses closes from old new source (IsSearched writer0 writer DONE)
+  IsDone (Apply applying) = HasApplied g opens refuses closes from old new writer0 writer applying
   IsDone (Status inspecting) = new ≡ old
 
   -- what status 1 says of a question about all packets
   abbrev pub IsFound : Asked → Type 0
-  IsFound (Impact rehearsing) = IsFoundOf g opens refuses closes old new rehearsing.source (IsRehearsed writer0 writer rehearsing REFUSED)
-  IsFound (Assert asserting) = IsFoundOf g opens refuses closes old new asserting.source (IsAsserted writer0 writer asserting REFUSED)
-  IsFound (Unused source) = IsFoundOf g opens refuses closes old new source (IsSearched writer0 writer REFUSED)
+  IsFound (Impact rehearsing) = IsFoundOf g opens refuses closes from old new rehearsing.source (IsRehearsed (Gives (after (rest_by rehearsing.source) from) (path_of rehearsing.file)) writer0 writer rehearsing REFUSED)
+  IsFound (Assert asserting) = IsFoundOf g opens refuses closes from old new asserting.source (IsAsserted (Gives (after (rest_by asserting.source) from) (path_of asserting.file)) writer0 writer asserting REFUSED)
+  IsFound (Unused source) = IsFoundOf g opens refuses closes from old new source (IsSearched writer0 writer REFUSED)
   IsFound asked = Unit {0}
 
   -- and what is left in any case
   abbrev pub IsDoneAtMost : Asked → Type 0
-  IsDoneAtMost (Tables asking) = HasAnsweredAtMost g opens refuses closes old new writer0 writer asking
-  IsDoneAtMost (Diff diffing) = HasComparedAtMost g opens refuses closes old new writer0 writer diffing.reach diffing.shown diffing.source
-  IsDoneAtMost (Follow following) = (new ≡ old) × HasFollowedAtMost writer0 writer following.reach
+  IsDoneAtMost (Tables asking) = HasAnsweredAtMost g opens refuses closes from old new writer0 writer asking
+  IsDoneAtMost (Diff diffing) = HasComparedAtMost g opens refuses closes from old new writer0 writer (path_of diffing.file) diffing.reach diffing.shown diffing.source
+  IsDoneAtMost (Follow following) = (new ≡ old) × HasFollowedAtMost from writer0 writer (path_of following.file) following.server following.reach
   IsDoneAtMost (Wait waiting) = (new ≡ old) × (writer ≡ writer0)
-  IsDoneAtMost (Import importing) = HasImportedAtMost g opens refuses closes old new writer0 writer (option_map (λ path. path.now) importing.database)
-  IsDoneAtMost (Impact rehearsing) = IsFoundAtMost g opens refuses closes old new writer0 writer rehearsing.source (IsRehearsedAtMost writer0 writer rehearsing)
-  IsDoneAtMost (Assert asserting) = IsFoundAtMost g opens refuses closes old new writer0 writer asserting.source (IsAssertedAtMost writer0 writer asserting)
-  IsDoneAtMost (Unused source) = IsFoundAtMost g opens refuses closes old new writer0 writer source (IsSearchedAtMost writer0 writer)
-  IsDoneAtMost (Apply applying) = HasAppliedAtMost g opens refuses closes old new writer0 writer applying
+  IsDoneAtMost (Import importing) = HasImportedAtMost g opens refuses closes from old new writer0 writer (path_of importing.file) (path_of importing.database)
+  IsDoneAtMost (Impact rehearsing) = IsFoundAtMost g opens refuses closes from old new writer0 writer rehearsing.source (IsRehearsedAtMost (Gives (after (rest_by rehearsing.source) from) (path_of rehearsing.file)) writer0 writer rehearsing)
+  IsDoneAtMost (Assert asserting) = IsFoundAtMost g opens refuses closes from old new writer0 writer asserting.source (IsAssertedAtMost (Gives (after (rest_by asserting.source) from) (path_of asserting.file)) writer0 writer asserting)
+  IsDoneAtMost (Unused source) = IsFoundAtMost g opens refuses closes from old new writer0 writer source (IsSearchedAtMost writer0 writer)
+  IsDoneAtMost (Apply applying) = HasAppliedAtMost g opens refuses closes from old new writer0 writer applying
   IsDoneAtMost (Status inspecting) = new ≡ old

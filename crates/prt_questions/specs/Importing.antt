@@ -7,22 +7,27 @@ use Rattle.prt_addr.specs.Word.{Word}
 use Rattle.prt_import.specs.declared.accepted.Accepted.{Accepted}
 use Rattle.prt_questions.specs.Applying.{IsMadeAt, IsMadeAtMost}
 use Rattle.prt_questions.specs.Asking.{IsCutOff, IsListing, IsWholeListing}
+use Rattle.prt_questions.specs.Sources.{Gives, Sources}
+use Rattle.prt_questions.specs.declared.machine.Wanted.{Wanted}
 
-module _ {M S : Type 0} (g : Ghosts S) (opens : M → M → List ℕ → Held S → Type 0) (refuses : M → M → List ℕ → Type 0) (closes : M → M → Held S → Type 0) (old new : M) (writer0 writer : Option (List ℕ)) where
+module _ {M S : Type 0} (g : Ghosts S) (opens : Wanted → M → M → List ℕ → Held S → Type 0) (refuses : Wanted → M → M → List ℕ → Type 0) (closes : M → M → Held S → Type 0) (old new : M) (writer0 writer : Option (List ℕ)) where
   -- the script of a listing was written, or the tables of the database at a path were made those that it makes
   abbrev pub IsImported : Option Word → Accepted → Type 0
   IsImported None accepted = (new ≡ old) × Appends writer0 writer accepted.script.items
   IsImported (Some path) accepted = IsMadeAt g opens closes old new writer0 writer path false false accepted.version
 
-  -- all of a listing was imported
-  abbrev pub HasImported : Option Word → Type 0
-  HasImported database = (accepted : Accepted) × IsWholeListing accepted × IsImported database accepted
-
   -- the script was written in part, or the tables were made so at most
   abbrev pub IsImportedAtMost : Option Word → Accepted → Type 0
   IsImportedAtMost None accepted = (new ≡ old) × IsCutOff accepted.script.items writer0 writer
-  IsImportedAtMost (Some path) accepted = IsMadeAtMost g opens refuses closes old new writer0 writer path false accepted.version
+  IsImportedAtMost (Some path) accepted = IsMadeAtMost g opens refuses closes old new writer0 writer path false false accepted.version
+
+module _ {M S : Type 0} (g : Ghosts S) (opens : Wanted → M → M → List ℕ → Held S → Type 0) (refuses : Wanted → M → M → List ℕ → Type 0) (closes : M → M → Held S → Type 0) (from : Sources) (old new : M) (writer0 writer : Option (List ℕ)) where
+  -- all of a listing that was read was imported
+  abbrev pub HasImported : (file database : Option Word) → Type 0
+  HasImported file database = (accepted : Accepted) × IsWholeListing (Gives from file) accepted × IsImported g opens refuses closes old new writer0 writer database accepted
 
   -- in any case: there was no listing, and nothing was done, or it was imported at most
-  abbrev pub HasImportedAtMost : Option Word → Type 0
-  HasImportedAtMost database = ((new ≡ old) × (writer ≡ writer0)) ⊎ ((accepted : Accepted) × IsListing accepted × IsImportedAtMost database accepted)
+  abbrev pub HasImportedAtMost : (file database : Option Word) → Type 0
+  HasImportedAtMost file database =
+      ((new ≡ old) × (writer ≡ writer0))
+      ⊎ ((accepted : Accepted) × IsListing (Gives from file) accepted × IsImportedAtMost g opens refuses closes old new writer0 writer database accepted)

@@ -7,3 +7,5 @@ pub mod Done
 pub mod Applying
 pub mod Tried
 pub mod Importing
+pub mod Sources
+pub mod Told

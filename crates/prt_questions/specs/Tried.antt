@@ -7,7 +7,7 @@ use Rattle.prt_questions.specs.declared.apply_remote.Tried.{Tried}
 use Rattle.prt_questions.specs.declared.apply_remote.Tried.TheVariants.{Failed, Moved, Text}
 
 -- a text is that of a plan for the tables that the server told, and a status is that of a fault
-abbrev pub IsTriedFor : (shows : Bool) → State → Tried → Type 0
-IsTriedFor shows wanted (Text text) = (told : State) × IsPlanText shows told wanted text.items
-IsTriedFor shows wanted Moved = Unit {0}
-IsTriedFor shows wanted (Failed status) = status ≡ FAULT
+abbrev pub IsTriedFor : (tells : State → Type 0) → (shows : Bool) → State → Tried → Type 0
+IsTriedFor tells shows wanted (Text text) = (told : State) × tells told × IsPlanText shows told wanted text.items
+IsTriedFor tells shows wanted Moved = Unit {0}
+IsTriedFor tells shows wanted (Failed status) = status ≡ FAULT

@@ -1,6 +1,7 @@
 //! Tables of a server that are made what a script makes of a new database.
 ghost use Rattle.std.specs.Prelude.{◌≡◌, ◌⊎◌};
 ghost use Rattle.prt_questions.specs.Applying.{IsPrinted, IsPrintedAtMost};
+ghost use Rattle.prt_questions.specs.Sources.{AreTold};
 ghost use Rattle.prt_questions.specs.Tried.{IsTriedFor};
 ghost use Rattle.prt_version.specs.State.{State};
 
@@ -77,7 +78,7 @@ fn try_once<N: LocalNet, W: Write, E: Write>(
     output: &mut W,
     errors: &mut E,
 ) -> Tried
-    ensures text { IsTriedFor manner.shows_impact wanted.now result }
+    ensures text { IsTriedFor (AreTold N.reaches N.Stream.remaining rt.now ends.now.feed) manner.shows_impact wanted.now result }
     ensures unwritten { W.contents output.new ≡ W.contents output.old }
 {
     let found = match read_tables(rt, alloc, &ends.feed) {
@@ -129,8 +130,8 @@ pub(crate) fn apply_to_server<N: LocalNet, W: Write, E: Write>(
     errors: &mut E,
 ) -> u8
     ensures status { (result ≡ DONE) ⊎ (result ≡ FAULT) }
-    ensures whole { result ≡ DONE → (told : State) × IsPrinted manner.shows_impact told wanted.now (W.contents output.old) (W.contents output.new) }
-    ensures part { (told : State) × IsPrintedAtMost manner.shows_impact told wanted.now (W.contents output.old) (W.contents output.new) }
+    ensures whole { result ≡ DONE → (told : State) × AreTold N.reaches N.Stream.remaining rt.now ends.now.feed told × IsPrinted manner.shows_impact told wanted.now (W.contents output.old) (W.contents output.new) }
+    ensures part { (W.contents output.new ≡ W.contents output.old) ⊎ ((told : State) × AreTold N.reaches N.Stream.remaining rt.now ends.now.feed told × IsPrintedAtMost manner.shows_impact told wanted.now (W.contents output.old) (W.contents output.new)) }
 {
     for _ in 0..TRIES {
         match try_once(rt, alloc, ends, wanted, manner, output, errors) {

@@ -5,7 +5,8 @@ ghost use Rattle.prt_command.specs.Storable.{IsStorable};
 ghost use Rattle.prt_front.specs.Line.{line_state};
 ghost use Rattle.prt_publisher.specs.Standing.{IsQuiet};
 ghost use Rattle.prt_publisher.specs.declared.phase.Phase.TheVariants.{Ready};
-ghost use Rattle.prt_questions.specs.Applying.{HasApplied, HasAppliedAtMost, IsMadeAt, IsMadeAtMost, IsPrinted, IsPrintedAtMost, IsScript};
+ghost use Rattle.prt_questions.specs.Applying.{HasApplied, HasAppliedAtMost, IsMadeAt, IsMadeAtMost, IsPrinted, IsPrintedAtMost, IsScript, wanted_by};
+ghost use Rattle.prt_questions.specs.Sources.{IsFileOf, IsRead, path_of, sources_of};
 ghost use Rattle.prt_version.specs.Accepted.{IsAccepted};
 ghost use Rattle.prt_version.specs.Change.{fold};
 
@@ -22,13 +23,12 @@ use crate::telling::tell;
 use prt_command::Command;
 use prt_grace::Domain;
 use prt_import::Accepted;
-use prt_program::{Refusal, cause_message, log_message};
+use prt_program::{ReadFiles, Refusal, cause_message, log_message};
 use prt_publisher::Publisher;
 use prt_version::Version;
 use prt_words::{Applying, DONE, FAULT, Fault, Target, report};
 use sqlite::{Alter, Connection};
 use std::alloc::Global;
-use std::fs::Files;
 use std::io::{Read, Write};
 use std::sync::Wait;
 
@@ -128,7 +128,9 @@ fn make<S: Alter + Drop, H: Wait, W: Write, E: Write>(
 }
 
 /// Chooses which database is opened: changes that are only printed make none.
-fn wanted_by(manner: Manner) -> Wanted {
+fn wanted_by(manner: Manner) -> Wanted
+    ensures { result ≡ wanted_by manner.is_dry_run }
+{
     if manner.is_dry_run {
         Wanted::Ours
     } else {
@@ -141,7 +143,7 @@ fn wanted_by(manner: Manner) -> Wanted {
 pub(crate) fn apply_to_database<
     S: Alter + Drop,
     M: Machine<Connection<S>> + Drop,
-    F: Files,
+    F,
     H: Wait + Copy + Drop,
     W: Write,
     E: Write,
@@ -156,7 +158,7 @@ pub(crate) fn apply_to_database<
 ) -> u8
     ensures status { (result ≡ DONE) ⊎ (result ≡ FAULT) }
     ensures whole { result ≡ DONE → IsMadeAt S.Store M.opens M.closes databases.old.machine databases.new.machine (W.contents output.old) (W.contents output.new) path.now manner.shows_impact manner.is_dry_run wanted.now }
-    ensures at_most { IsMadeAtMost S.Store M.opens M.refuses M.closes databases.old.machine databases.new.machine (W.contents output.old) (W.contents output.new) path.now manner.shows_impact wanted.now }
+    ensures at_most { IsMadeAtMost S.Store M.opens M.refuses M.closes databases.old.machine databases.new.machine (W.contents output.old) (W.contents output.new) path.now manner.shows_impact manner.is_dry_run wanted.now }
 {
     let rt = databases.rt;
     let opened = open_publisher(&mut databases.machine, alloc, path, wanted_by(manner));
@@ -192,7 +194,7 @@ pub(crate) fn apply_to_database<
 /// # Errors
 ///
 /// The exit status: it can't be read, a line is refused, or memory is. Standard error has the cause.
-fn read_script<F: Files, R: Read, W: Write, E: Write>(
+fn read_script<F: ReadFiles, R: Read, W: Write, E: Write>(
     files: &F,
     alloc: Global,
     file: Option<&str>,
@@ -200,7 +202,7 @@ fn read_script<F: Files, R: Read, W: Write, E: Write>(
     output: &mut W,
     errors: &mut E,
 ) -> Result<Accepted, u8>
-    ensures script { IfOk result IsScript }
+    ensures script { IfOk result (IsScript (IsRead (IsFileOf F.opens F.Opened.remaining files.now) (R.remaining input.old) (path_of file.entry))) }
     ensures fault { IfErr result (λ status. (status ≡ REFUSED) ⊎ (status ≡ FAULT)) }
     ensures unwritten { W.contents output.new ≡ W.contents output.old }
 {
@@ -222,7 +224,7 @@ fn read_script<F: Files, R: Read, W: Write, E: Write>(
 pub(crate) fn apply<
     S: Alter + Drop,
     M: Machine<Connection<S>> + Drop,
-    F: Files,
+    F: ReadFiles,
     N: LocalNet + Wait + Copy + Drop,
     R: Read,
     W: Write,
@@ -236,8 +238,8 @@ pub(crate) fn apply<
     errors: &mut E,
 ) -> u8
     ensures status { (result ≡ DONE) ⊎ ((result ≡ REFUSED) ⊎ (result ≡ FAULT)) }
-    ensures whole { result ≡ DONE → HasApplied S.Store M.opens M.refuses M.closes databases.old.machine databases.new.machine (W.contents output.old) (W.contents output.new) applying.now }
-    ensures at_most { HasAppliedAtMost S.Store M.opens M.refuses M.closes databases.old.machine databases.new.machine (W.contents output.old) (W.contents output.new) applying.now }
+    ensures whole { result ≡ DONE → HasApplied S.Store M.opens M.refuses M.closes (sources_of F.opens F.Opened.remaining databases.old.files.now N.reaches N.Stream.remaining databases.old.rt (R.remaining input.old)) databases.old.machine databases.new.machine (W.contents output.old) (W.contents output.new) applying.now }
+    ensures at_most { HasAppliedAtMost S.Store M.opens M.refuses M.closes (sources_of F.opens F.Opened.remaining databases.old.files.now N.reaches N.Stream.remaining databases.old.rt (R.remaining input.old)) databases.old.machine databases.new.machine (W.contents output.old) (W.contents output.new) applying.now }
 {
     let read = read_script(databases.files, alloc, applying.file, input, output, errors);
     let made = match read {

@@ -5,7 +5,9 @@ ghost use Rattle.prt_ask.specs.Answers.{is_whole_change};
 ghost use Rattle.prt_questions.specs.Asking.{AreKernels, HasAnswered, HasAnsweredAtMost, IsAnswered, IsAnsweredAtMost, IsAskedAt, IsCutOff, IsNotOpened, IsReplied, IsRepliedAtMost, IsTold, called, said};
 ghost use Rattle.prt_import.specs.Accepted.{IsExecuted};
 ghost use Rattle.prt_import.specs.TableNames.{names_of};
+ghost use Rattle.prt_questions.specs.Sources.{AreTold, IsFileOf, IsRead, IsReply, path_of, sources_of};
 ghost use Rattle.prt_replies.specs.Written.{Written};
+ghost use Rattle.prt_questions.specs.Told.{IsSaidOf};
 ghost use Rattle.prt_version.specs.State.{State};
 ghost use Rattle.prt_words.specs.declared.asking.Source.TheVariants.{Server};
 
@@ -20,13 +22,12 @@ use crate::remote::{Told, ask_line, read_tables};
 use crate::telling::tell;
 use prt_ask::{Answered, NotAnswered, Question, question_of};
 use prt_import::{Accepted, accept};
-use prt_program::{cause_message, log_message, question_message};
+use prt_program::{ReadFiles, cause_message, log_message, question_message};
 use prt_replies::{Reply, Text, write_reply};
 use prt_words::{Asking, DONE, FAULT, Fault, Form, STANDARD_INPUT, ServerPlace, Source, report};
 use sqlite::{Alter, Connection};
-use std::alloc::{Alloc, AllocError, Global};
+use std::alloc::{AllocError, Global};
 use std::fmt::Display;
-use std::fs::Files;
 use std::io::{Read, Write};
 use std::sync::Wait;
 
@@ -136,7 +137,7 @@ fn write_answer<P: Display, W: Write, E: Write>(
 fn ask_database<
     S: Alter + Drop,
     M: Machine<Connection<S>> + Drop,
-    F: Files,
+    F,
     H: Wait + Copy + Drop,
     W: Write,
     E: Write,
@@ -151,7 +152,7 @@ fn ask_database<
     ensures status { (result ≡ DONE) ⊎ ((result ≡ REFUSED) ⊎ (result ≡ FAULT)) }
     ensures whole { result ≡ DONE → IsAskedAt S.Store M.opens M.refuses M.closes databases.old.machine databases.new.machine path.now (λ state. Appends (W.contents output.old) (W.contents output.new) (said inquiry.now state)) }
     ensures there { result ≡ DONE → M.is_there databases.old.machine path.now }
-    ensures at_most { (IsNotOpened S.Store M.opens M.refuses M.closes databases.old.machine databases.new.machine path.now × (W.contents output.new ≡ W.contents output.old))
+    ensures at_most { (IsNotOpened S.Store M.opens M.refuses M.closes databases.old.machine databases.new.machine Wanted.Ours path.now × (W.contents output.new ≡ W.contents output.old))
         ⊎ IsAskedAt S.Store M.opens M.refuses M.closes databases.old.machine databases.new.machine path.now (λ state. IsCutOff (said inquiry.now state) (W.contents output.old) (W.contents output.new)) }
 {
     let rt = databases.rt;
@@ -183,8 +184,8 @@ fn ask_server<N: LocalNet, W: Write, E: Write>(
     errors: &mut E,
 ) -> u8
     ensures status { (result ≡ DONE) ⊎ ((result ≡ REFUSED) ⊎ (result ≡ FAULT)) }
-    ensures whole { result ≡ DONE → (told : State) × Appends (W.contents output.old) (W.contents output.new) (said inquiry.now told) }
-    ensures part { (W.contents output.new ≡ W.contents output.old) ⊎ ((told : State) × IsCutOff (said inquiry.now told) (W.contents output.old) (W.contents output.new)) }
+    ensures whole { result ≡ DONE → (told : State) × AreTold N.reaches N.Stream.remaining rt.now place.now told × Appends (W.contents output.old) (W.contents output.new) (said inquiry.now told) }
+    ensures part { (W.contents output.new ≡ W.contents output.old) ⊎ ((told : State) × AreTold N.reaches N.Stream.remaining rt.now place.now told × IsCutOff (said inquiry.now told) (W.contents output.old) (W.contents output.new)) }
 {
     match read_tables(rt, alloc, place) {
         Ok(version) => {
@@ -200,7 +201,7 @@ fn ask_server<N: LocalNet, W: Write, E: Write>(
 
 /// Returns what a server said to an inquiry, with tables called as it asks.
 fn said_by(alloc: Global, told: Told, inquiry: &Inquiry<'_>) -> Result<Vec<u8>, NotAnswered>
-    ensures { IfOk result (λ text. IsTold inquiry.now text.items) }
+    ensures { IfOk result (λ text. IsSaidOf told inquiry.now text.items) }
 {
     match told {
         Told::Tables(version) => match said(alloc, &version, inquiry) {
@@ -223,8 +224,8 @@ fn ask_session<N: LocalNet, W: Write, E: Write>(
     errors: &mut E,
 ) -> u8
     ensures status { (result ≡ DONE) ⊎ ((result ≡ REFUSED) ⊎ (result ≡ FAULT)) }
-    ensures whole { result ≡ DONE → (text : List ℕ) × IsTold inquiry.now text × Appends (W.contents output.old) (W.contents output.new) text }
-    ensures part { (W.contents output.new ≡ W.contents output.old) ⊎ ((text : List ℕ) × IsTold inquiry.now text × IsCutOff text (W.contents output.old) (W.contents output.new)) }
+    ensures whole { result ≡ DONE → (text : List ℕ) × IsTold (AreTold N.reaches N.Stream.remaining rt.now place.now) (IsReply N.reaches N.Stream.remaining rt.now place.now line.now) inquiry.now text × Appends (W.contents output.old) (W.contents output.new) text }
+    ensures part { (W.contents output.new ≡ W.contents output.old) ⊎ ((text : List ℕ) × IsTold (AreTold N.reaches N.Stream.remaining rt.now place.now) (IsReply N.reaches N.Stream.remaining rt.now place.now line.now) inquiry.now text × IsCutOff text (W.contents output.old) (W.contents output.new)) }
 {
     let told = match ask_line(rt, alloc, place, line) {
         Ok(told) => told,
@@ -272,7 +273,7 @@ pub(crate) fn run_over_new<W: Write, E: Write>(
 
 /// Asks what a script makes of a new database, tells which of its lines are refused and what its comments say was left out,
 /// and returns the exit status.
-fn ask_script<F: Files, R: Read, W: Write, E: Write>(
+fn ask_script<F: ReadFiles, R: Read, W: Write, E: Write>(
     files: &F,
     alloc: Global,
     file: Option<&str>,
@@ -282,8 +283,8 @@ fn ask_script<F: Files, R: Read, W: Write, E: Write>(
     errors: &mut E,
 ) -> u8
     ensures status { (result ≡ DONE) ⊎ ((result ≡ REFUSED) ⊎ (result ≡ FAULT)) }
-    ensures whole { result ≡ DONE → (made : Accepted) × (text : List ℕ) × IsExecuted made text × AreKernels made.left.items × Appends (W.contents output.old) (W.contents output.new) (said inquiry.now made.version) }
-    ensures part { (W.contents output.new ≡ W.contents output.old) ⊎ ((made : Accepted) × (text : List ℕ) × IsExecuted made text × IsCutOff (said inquiry.now made.version) (W.contents output.old) (W.contents output.new)) }
+    ensures whole { result ≡ DONE → (made : Accepted) × (text : List ℕ) × IsRead (IsFileOf F.opens F.Opened.remaining files.now) (R.remaining input.old) (path_of file.entry) text × IsExecuted made text × AreKernels made.left.items × Appends (W.contents output.old) (W.contents output.new) (said inquiry.now made.version) }
+    ensures part { (W.contents output.new ≡ W.contents output.old) ⊎ ((made : Accepted) × (text : List ℕ) × IsRead (IsFileOf F.opens F.Opened.remaining files.now) (R.remaining input.old) (path_of file.entry) text × IsExecuted made text × IsCutOff (said inquiry.now made.version) (W.contents output.old) (W.contents output.new)) }
 {
     let script = match read_whole(files, alloc, file, input, output, errors) {
         Ok(script) => script,
@@ -308,7 +309,7 @@ fn ask_script<F: Files, R: Read, W: Write, E: Write>(
 pub(crate) fn ask_source<
     S: Alter + Drop,
     M: Machine<Connection<S>> + Drop,
-    F: Files,
+    F: ReadFiles,
     N: LocalNet + Wait + Copy + Drop,
     R: Read,
     W: Write,
@@ -323,8 +324,8 @@ pub(crate) fn ask_source<
     errors: &mut E,
 ) -> u8
     ensures status { (result ≡ DONE) ⊎ ((result ≡ REFUSED) ⊎ (result ≡ FAULT)) }
-    ensures whole { result ≡ DONE → IsAnswered S.Store M.opens M.refuses M.closes databases.old.machine databases.new.machine (W.contents output.old) (W.contents output.new) source.now (said inquiry.now) }
-    ensures at_most { IsAnsweredAtMost S.Store M.opens M.refuses M.closes databases.old.machine databases.new.machine (W.contents output.old) (W.contents output.new) source.now (said inquiry.now) }
+    ensures whole { result ≡ DONE → IsAnswered S.Store M.opens M.refuses M.closes (sources_of F.opens F.Opened.remaining databases.old.files.now N.reaches N.Stream.remaining databases.old.rt (R.remaining input.old)) databases.old.machine databases.new.machine (W.contents output.old) (W.contents output.new) source.now (said inquiry.now) }
+    ensures at_most { IsAnsweredAtMost S.Store M.opens M.refuses M.closes (sources_of F.opens F.Opened.remaining databases.old.files.now N.reaches N.Stream.remaining databases.old.rt (R.remaining input.old)) databases.old.machine databases.new.machine (W.contents output.old) (W.contents output.new) source.now (said inquiry.now) }
 {
     match source {
         Source::Database(path) => ask_database(databases, alloc, path, inquiry, output, errors),
@@ -347,7 +348,7 @@ pub(crate) fn ask_source<
 fn ask_tables<
     S: Alter + Drop,
     M: Machine<Connection<S>> + Drop,
-    F: Files,
+    F: ReadFiles,
     N: LocalNet + Wait + Copy + Drop,
     R: Read,
     W: Write,
@@ -362,10 +363,10 @@ fn ask_tables<
     errors: &mut E,
 ) -> u8
     ensures status { (result ≡ DONE) ⊎ ((result ≡ REFUSED) ⊎ (result ≡ FAULT)) }
-    ensures whole { result ≡ DONE → IsAnswered S.Store M.opens M.refuses M.closes databases.old.machine databases.new.machine (W.contents output.old) (W.contents output.new) asking.now.source (said inquiry.now)
-        ⊎ IsReplied S.Store M.opens M.refuses M.closes databases.old.machine databases.new.machine (W.contents output.old) (W.contents output.new) asking.now.source (called inquiry.now.labels inquiry.now.form (names_of inquiry.now.names.now)) }
-    ensures at_most { IsAnsweredAtMost S.Store M.opens M.refuses M.closes databases.old.machine databases.new.machine (W.contents output.old) (W.contents output.new) asking.now.source (said inquiry.now)
-        ⊎ IsRepliedAtMost S.Store M.opens M.refuses M.closes databases.old.machine databases.new.machine (W.contents output.old) (W.contents output.new) asking.now.source (called inquiry.now.labels inquiry.now.form (names_of inquiry.now.names.now)) }
+    ensures whole { result ≡ DONE → IsAnswered S.Store M.opens M.refuses M.closes (sources_of F.opens F.Opened.remaining databases.old.files.now N.reaches N.Stream.remaining databases.old.rt (R.remaining input.old)) databases.old.machine databases.new.machine (W.contents output.old) (W.contents output.new) asking.now.source (said inquiry.now)
+        ⊎ IsReplied S.Store M.opens M.refuses M.closes (sources_of F.opens F.Opened.remaining databases.old.files.now N.reaches N.Stream.remaining databases.old.rt (R.remaining input.old)) databases.old.machine databases.new.machine (W.contents output.old) (W.contents output.new) asking.now.source asking.now.line.items (called inquiry.now.labels inquiry.now.form (names_of inquiry.now.names.now)) }
+    ensures at_most { IsAnsweredAtMost S.Store M.opens M.refuses M.closes (sources_of F.opens F.Opened.remaining databases.old.files.now N.reaches N.Stream.remaining databases.old.rt (R.remaining input.old)) databases.old.machine databases.new.machine (W.contents output.old) (W.contents output.new) asking.now.source (said inquiry.now)
+        ⊎ IsRepliedAtMost S.Store M.opens M.refuses M.closes (sources_of F.opens F.Opened.remaining databases.old.files.now N.reaches N.Stream.remaining databases.old.rt (R.remaining input.old)) databases.old.machine databases.new.machine (W.contents output.old) (W.contents output.new) asking.now.source asking.now.line.items (called inquiry.now.labels inquiry.now.form (names_of inquiry.now.names.now)) }
 {
     let (source, rt) = (&asking.source, databases.rt);
     match session_of(source, &inquiry.question) {
@@ -386,7 +387,7 @@ fn ask_tables<
 pub(crate) fn ask<
     S: Alter + Drop,
     M: Machine<Connection<S>> + Drop,
-    F: Files + Alloc + Clone + Drop,
+    F: ReadFiles,
     N: LocalNet + Wait + Copy + Drop,
     R: Read,
     W: Write,
@@ -400,8 +401,8 @@ pub(crate) fn ask<
     errors: &mut E,
 ) -> u8
     ensures status { (result ≡ DONE) ⊎ ((result ≡ REFUSED) ⊎ (result ≡ FAULT)) }
-    ensures whole { result ≡ DONE → HasAnswered S.Store M.opens M.refuses M.closes databases.old.machine databases.new.machine (W.contents output.old) (W.contents output.new) asking.now }
-    ensures at_most { HasAnsweredAtMost S.Store M.opens M.refuses M.closes databases.old.machine databases.new.machine (W.contents output.old) (W.contents output.new) asking.now }
+    ensures whole { result ≡ DONE → HasAnswered S.Store M.opens M.refuses M.closes (sources_of F.opens F.Opened.remaining databases.old.files.now N.reaches N.Stream.remaining databases.old.rt (R.remaining input.old)) databases.old.machine databases.new.machine (W.contents output.old) (W.contents output.new) asking.now }
+    ensures at_most { HasAnsweredAtMost S.Store M.opens M.refuses M.closes (sources_of F.opens F.Opened.remaining databases.old.files.now N.reaches N.Stream.remaining databases.old.rt (R.remaining input.old)) databases.old.machine databases.new.machine (W.contents output.old) (W.contents output.new) asking.now }
 {
     let question = match question_of(asking.verb, &asking.line, asking.form) {
         Ok(question) => question,

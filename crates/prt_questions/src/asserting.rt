@@ -1,6 +1,7 @@
 //! Whether claims about all packets hold.
 ghost use Rattle.std.specs.Prelude.{◌≡◌, ◌⊎◌, ◌++◌, [], IfOk, OnOk, true};
 ghost use Rattle.prt_questions.specs.Analyses.{IsAsserted, IsAssertedAtMost, IsFoundAtMost, IsFoundOf, breach_lines, breaches_text};
+ghost use Rattle.prt_questions.specs.Sources.{Gives, IsFileOf, IsRead, after, path_of, rest_by, sources_of};
 
 use crate::asking::{REFUSED, write_text};
 use crate::databases::DatabaseFiles;
@@ -12,12 +13,11 @@ use crate::tables::{Tables, tables_at};
 use crate::telling::tell;
 use prt_claims::{BadClaim, BadLine, Breach, Checked, ClaimFault, check_claims, push_breach_line};
 use prt_explain::explanation_text;
-use prt_program::Refusal;
+use prt_program::{ReadFiles, Refusal};
 use prt_version::Version;
 use prt_words::{Asserting, DONE, FAULT, STANDARD_INPUT};
 use sqlite::{Alter, Connection};
 use std::alloc::{AllocError, Global};
-use std::fs::Files;
 use std::io::{Read, Write};
 use std::sync::Wait;
 
@@ -109,7 +109,7 @@ fn holds(checked: &Checked) -> bool
 
 /// Checks the claims of a file over tables, and writes each that doesn't hold with a packet. The exit status is `REFUSED` if
 /// there is one, and `UNREADABLE` if a line is no claim, which standard error names: then nothing is written.
-fn assert_over<F: Files, R: Read, W: Write, E: Write>(
+fn assert_over<F: ReadFiles, R: Read, W: Write, E: Write>(
     files: &F,
     alloc: Global,
     tables: &Tables,
@@ -120,8 +120,8 @@ fn assert_over<F: Files, R: Read, W: Write, E: Write>(
 ) -> u8
     requires { (tables.now.left ≡ DONE) ⊎ (tables.now.left ≡ REFUSED) }
     ensures status { (result ≡ DONE) ⊎ ((result ≡ REFUSED) ⊎ ((result ≡ UNREADABLE) ⊎ (result ≡ FAULT))) }
-    ensures found { (result ≡ DONE) ⊎ (result ≡ REFUSED) → IsAsserted (W.contents output.old) (W.contents output.new) asserting.now result tables.now.version }
-    ensures at_most { IsAssertedAtMost (W.contents output.old) (W.contents output.new) asserting.now tables.now.version }
+    ensures found { (result ≡ DONE) ⊎ (result ≡ REFUSED) → IsAsserted (IsRead (IsFileOf F.opens F.Opened.remaining files.now) (R.remaining input.old) (path_of asserting.now.file)) (W.contents output.old) (W.contents output.new) asserting.now result tables.now.version }
+    ensures at_most { IsAssertedAtMost (IsRead (IsFileOf F.opens F.Opened.remaining files.now) (R.remaining input.old) (path_of asserting.now.file)) (W.contents output.old) (W.contents output.new) asserting.now tables.now.version }
 {
     let text = match read_whole(files, alloc, asserting.file, input, output, errors) {
         Ok(text) => text,
@@ -159,7 +159,7 @@ fn assert_over<F: Files, R: Read, W: Write, E: Write>(
 pub(crate) fn assert_claims<
     S: Alter + Drop,
     M: Machine<Connection<S>> + Drop,
-    F: Files,
+    F: ReadFiles,
     N: LocalNet + Wait + Copy + Drop,
     R: Read,
     W: Write,
@@ -173,14 +173,13 @@ pub(crate) fn assert_claims<
     errors: &mut E,
 ) -> u8
     ensures status { (result ≡ DONE) ⊎ ((result ≡ REFUSED) ⊎ ((result ≡ UNREADABLE) ⊎ (result ≡ FAULT))) }
-    ensures found { (result ≡ DONE) ⊎ (result ≡ REFUSED) → IsFoundOf S.Store M.opens M.refuses M.closes databases.old.machine databases.new.machine asserting.now.source (IsAsserted (W.contents output.old) (W.contents output.new) asserting.now result) }
-    ensures at_most { IsFoundAtMost S.Store M.opens M.refuses M.closes databases.old.machine databases.new.machine (W.contents output.old) (W.contents output.new) asserting.now.source (IsAssertedAtMost (W.contents output.old) (W.contents output.new) asserting.now) }
+    ensures found { (result ≡ DONE) ⊎ (result ≡ REFUSED) → IsFoundOf S.Store M.opens M.refuses M.closes (sources_of F.opens F.Opened.remaining databases.old.files.now N.reaches N.Stream.remaining databases.old.rt (R.remaining input.old)) databases.old.machine databases.new.machine asserting.now.source (IsAsserted (Gives (after (rest_by asserting.now.source) (sources_of F.opens F.Opened.remaining databases.old.files.now N.reaches N.Stream.remaining databases.old.rt (R.remaining input.old))) (path_of asserting.now.file)) (W.contents output.old) (W.contents output.new) asserting.now result) }
+    ensures at_most { IsFoundAtMost S.Store M.opens M.refuses M.closes (sources_of F.opens F.Opened.remaining databases.old.files.now N.reaches N.Stream.remaining databases.old.rt (R.remaining input.old)) databases.old.machine databases.new.machine (W.contents output.old) (W.contents output.new) asserting.now.source (IsAssertedAtMost (Gives (after (rest_by asserting.now.source) (sources_of F.opens F.Opened.remaining databases.old.files.now N.reaches N.Stream.remaining databases.old.rt (R.remaining input.old))) (path_of asserting.now.file)) (W.contents output.old) (W.contents output.new) asserting.now) }
 {
-    let source = &asserting.source;
+    let (files, source) = (databases.files, &asserting.source);
     let tables = match tables_at(databases, alloc, source, input, output, errors) {
         Ok(tables) => tables,
         Err(status) => return status,
     };
-    let files = databases.files;
     assert_over(files, alloc, &tables, asserting, input, output, errors)
 }

@@ -8,7 +8,6 @@ use prt_desk::StoreDesk;
 use prt_program::{Databases, Refusal};
 use sqlite::{Alter, Connection};
 use std::alloc::Global;
-use std::fs::Files;
 use std::marker::PhantomData;
 use std::sync::Wait;
 
@@ -18,7 +17,7 @@ pub struct DatabaseFiles<
     'a,
     S: Alter + Drop,
     M: Machine<Connection<S>> + Drop,
-    F: Files,
+    F,
     H: Wait + Copy + Drop,
 > {
     /// What opens and closes their files.
@@ -31,13 +30,13 @@ pub struct DatabaseFiles<
     store: PhantomData<S>,
 }
 
-impl<
+impl<'a, S: Alter + Drop, M: Machine<Connection<S>> + Drop, F, H: Wait + Copy + Drop> DatabaseFiles<
     'a,
-    S: Alter + Drop,
-    M: Machine<Connection<S>> + Drop,
-    F: Files,
-    H: Wait + Copy + Drop,
-> DatabaseFiles<'a, S, M, F, H> {
+    S,
+    M,
+    F,
+    H,
+> {
     /// Makes the databases of a machine, of which none is open.
     pub fn new(machine: M, files: &'a F, rt: H) -> DatabaseFiles<'a, S, M, F, H>
         ensures { result.machine ≡ machine }
@@ -51,16 +50,12 @@ impl<
     }
 }
 
-impl<
-    'a,
-    S: Alter + Drop,
-    M: Machine<Connection<S>> + Drop,
-    F: Files,
-    H: Wait + Copy + Drop,
-> Databases for DatabaseFiles<'a, S, M, F, H> {
+impl<'a, S: Alter + Drop, M: Machine<Connection<S>> + Drop, F, H: Wait + Copy + Drop> Databases
+    for DatabaseFiles<'a, S, M, F, H> {
     ghost use Rattle.prt_desk.specs.StoreDesk.{IsKept, LeavesFound};
     ghost use Rattle.prt_questions.specs.Closing.{LeavesNoneOpen};
     ghost use Rattle.prt_publisher.specs.Openings.{OpensOne};
+    ghost use Rattle.prt_questions.specs.declared.machine.Wanted.TheVariants.{Any};
     ghost use Rattle.prt_version.specs.Sound.{IsSound};
 
     type Opened = StoreDesk<S, H>;
@@ -70,11 +65,11 @@ impl<
     // Which bytes a path has is not known. An opening says what it made of the connection to them.
     ghost holds = { λ _ _ opened. IsSound opened };
 
-    ghost opens = { λ old new path desk. OpensOne S.Store (M.opens old.machine new.machine path) desk };
+    ghost opens = { λ old new path desk. OpensOne S.Store (M.opens Any old.machine new.machine path) desk };
 
     ghost closed = { λ old new desk. IsKept S.Store desk × M.closes old.machine new.machine desk.tables };
 
-    ghost refuses = { λ old new path reason. LeavesNoneOpen M.opens M.refuses M.closes S.Store reason old.machine new.machine path };
+    ghost refuses = { λ old new path reason. LeavesNoneOpen (M.opens Any) (M.refuses Any) M.closes S.Store reason old.machine new.machine path };
 
     ghost leaves = { LeavesFound S.Store };
 

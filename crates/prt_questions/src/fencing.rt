@@ -6,9 +6,9 @@ ghost use Rattle.prt_words.specs.declared.reach.Reach.{Reach as Reaches};
 use crate::reading::host_names;
 use prt_diff::{Fence, NumberRange};
 use prt_import::{HostNames, Left, Reason, route_key, rule_priority};
+use prt_program::ReadFiles;
 use prt_words::{NumberSpan, Reach};
-use std::alloc::{Alloc, AllocError, Global};
-use std::fs::Files;
+use std::alloc::{AllocError, Global};
 
 /// Collects the ranges of the numbers that are named.
 fn ranges_of(alloc: Global, spans: &[NumberSpan]) -> Result<Vec<NumberRange>, AllocError>
@@ -79,7 +79,7 @@ fn keep_out(fence: &mut Fence, names: &HostNames, line: &Left) -> Result<(), All
 /// # Errors
 ///
 /// Memory is refused.
-pub(crate) fn fence_beside<F: Files + Alloc + Clone + Drop>(
+pub(crate) fn fence_beside<F: ReadFiles>(
     files: &F,
     alloc: Global,
     reach: &Reach,

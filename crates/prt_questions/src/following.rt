@@ -1,6 +1,7 @@
 //! A kernel that follows a server, and the wait for a server.
 ghost use Rattle.std.specs.Prelude.{◌≡◌, ◌⊎◌};
 ghost use Rattle.prt_questions.specs.Asking.{HasFollowed, HasFollowedAtMost};
+ghost use Rattle.prt_questions.specs.Sources.{path_of, sources_of};
 
 use crate::asking::{REFUSED, none_message, report_none, write_made};
 use crate::fencing::fence_beside;
@@ -11,10 +12,9 @@ use crate::remote::{is_there, open_feed};
 use crate::telling::tell;
 use prt_ask::{FollowEnd, Mirror, follow};
 use prt_feed::NotRead;
-use prt_program::cause_message;
+use prt_program::{ReadFiles, cause_message};
 use prt_words::{DONE, FAULT, Following, ServerPlace, Waiting};
-use std::alloc::{Alloc, Global};
-use std::fs::Files;
+use std::alloc::Global;
 use std::io::{Read, Write};
 use std::rt::Clock;
 use std::thread;
@@ -40,13 +40,7 @@ fn tell_end<E: Write>(alloc: Global, place: &ServerPlace<'_>, end: FollowEnd, er
 ///
 /// With `--once` it ends after the first lines, with the status of `diff`. Otherwise it ends with 3: if the feed ends, if a
 /// change has no lines, and if the lines can't be written. No database is touched.
-pub(crate) fn follow_server<
-    F: Files + Alloc + Clone + Drop,
-    N: LocalNet,
-    R: Read,
-    W: Write,
-    E: Write,
->(
+pub(crate) fn follow_server<F: ReadFiles, N: LocalNet, R: Read, W: Write, E: Write>(
     files: &F,
     rt: &N,
     alloc: Global,
@@ -56,8 +50,8 @@ pub(crate) fn follow_server<
     errors: &mut E,
 ) -> u8
     ensures status { (result ≡ DONE) ⊎ ((result ≡ REFUSED) ⊎ (result ≡ FAULT)) }
-    ensures whole { result ≡ DONE → HasFollowed (W.contents output.old) (W.contents output.new) following.now.reach }
-    ensures at_most { HasFollowedAtMost (W.contents output.old) (W.contents output.new) following.now.reach }
+    ensures whole { result ≡ DONE → HasFollowed (sources_of F.opens F.Opened.remaining files.now N.reaches N.Stream.remaining rt.now (R.remaining input.old)) (W.contents output.old) (W.contents output.new) (path_of following.now.file) following.now.server following.now.reach }
+    ensures at_most { HasFollowedAtMost (sources_of F.opens F.Opened.remaining files.now N.reaches N.Stream.remaining rt.now (R.remaining input.old)) (W.contents output.old) (W.contents output.new) (path_of following.now.file) following.now.server following.now.reach }
 {
     let place = &following.server;
     let read = read_listing(files, alloc, following.file, input, output, errors);

@@ -6,6 +6,7 @@ ghost use Rattle.prt_impact.specs.declared.group.Group.{Group as GroupOf};
 ghost use Rattle.std.specs.Io.KnownBytes.{Appends};
 ghost use Rattle.prt_questions.specs.Analyses.{IsFoundAtMost, IsFoundOf, IsRehearsed, IsRehearsedAtMost, impact_text, sameness_of};
 ghost use Rattle.prt_questions.specs.Asking.{IsCutOff};
+ghost use Rattle.prt_questions.specs.Sources.{Gives, IsFileOf, IsRead, after, path_of, rest_by, sources_of};
 
 use crate::asking::{REFUSED, write_text};
 use crate::databases::DatabaseFiles;
@@ -18,13 +19,12 @@ use crate::telling::tell;
 use prt_impact::{Group, impact, impact_json, impact_text};
 use prt_import::accept_over;
 use prt_partition::{MOST_BOXES, Sameness};
-use prt_program::Refusal;
+use prt_program::{ReadFiles, Refusal};
 use prt_refusals::OnRefusal;
 use prt_version::Version;
 use prt_words::{DONE, Exactness, FAULT, Form, Rehearsing};
 use sqlite::{Alter, Connection};
 use std::alloc::Global;
-use std::fs::Files;
 use std::io::{Read, Write};
 use std::sync::Wait;
 
@@ -112,7 +112,7 @@ fn is_stopped(left: u8, on_refusal: OnRefusal) -> bool
 
 /// Executes a script over tables, reports its refused lines, and writes which packets go another way after it. If a refused
 /// line stops that, nothing is written.
-fn rehearse_over<F: Files, R: Read, W: Write, E: Write>(
+fn rehearse_over<F: ReadFiles, R: Read, W: Write, E: Write>(
     files: &F,
     alloc: Global,
     tables: &Tables,
@@ -123,8 +123,8 @@ fn rehearse_over<F: Files, R: Read, W: Write, E: Write>(
 ) -> u8
     requires { (tables.now.left ≡ DONE) ⊎ (tables.now.left ≡ REFUSED) }
     ensures status { (result ≡ DONE) ⊎ ((result ≡ REFUSED) ⊎ (result ≡ FAULT)) }
-    ensures found { (result ≡ DONE) ⊎ (result ≡ REFUSED) → IsRehearsed (W.contents output.old) (W.contents output.new) rehearsing.now result tables.now.version }
-    ensures at_most { IsRehearsedAtMost (W.contents output.old) (W.contents output.new) rehearsing.now tables.now.version }
+    ensures found { (result ≡ DONE) ⊎ (result ≡ REFUSED) → IsRehearsed (IsRead (IsFileOf F.opens F.Opened.remaining files.now) (R.remaining input.old) (path_of rehearsing.now.file)) (W.contents output.old) (W.contents output.new) rehearsing.now result tables.now.version }
+    ensures at_most { IsRehearsedAtMost (IsRead (IsFileOf F.opens F.Opened.remaining files.now) (R.remaining input.old) (path_of rehearsing.now.file)) (W.contents output.old) (W.contents output.new) rehearsing.now tables.now.version }
 {
     let script = match read_whole(files, alloc, rehearsing.file, input, output, errors) {
         Ok(script) => script,
@@ -153,7 +153,7 @@ fn rehearse_over<F: Files, R: Read, W: Write, E: Write>(
 pub(crate) fn rehearse<
     S: Alter + Drop,
     M: Machine<Connection<S>> + Drop,
-    F: Files,
+    F: ReadFiles,
     N: LocalNet + Wait + Copy + Drop,
     R: Read,
     W: Write,
@@ -167,14 +167,13 @@ pub(crate) fn rehearse<
     errors: &mut E,
 ) -> u8
     ensures status { (result ≡ DONE) ⊎ ((result ≡ REFUSED) ⊎ (result ≡ FAULT)) }
-    ensures found { (result ≡ DONE) ⊎ (result ≡ REFUSED) → IsFoundOf S.Store M.opens M.refuses M.closes databases.old.machine databases.new.machine rehearsing.now.source (IsRehearsed (W.contents output.old) (W.contents output.new) rehearsing.now result) }
-    ensures at_most { IsFoundAtMost S.Store M.opens M.refuses M.closes databases.old.machine databases.new.machine (W.contents output.old) (W.contents output.new) rehearsing.now.source (IsRehearsedAtMost (W.contents output.old) (W.contents output.new) rehearsing.now) }
+    ensures found { (result ≡ DONE) ⊎ (result ≡ REFUSED) → IsFoundOf S.Store M.opens M.refuses M.closes (sources_of F.opens F.Opened.remaining databases.old.files.now N.reaches N.Stream.remaining databases.old.rt (R.remaining input.old)) databases.old.machine databases.new.machine rehearsing.now.source (IsRehearsed (Gives (after (rest_by rehearsing.now.source) (sources_of F.opens F.Opened.remaining databases.old.files.now N.reaches N.Stream.remaining databases.old.rt (R.remaining input.old))) (path_of rehearsing.now.file)) (W.contents output.old) (W.contents output.new) rehearsing.now result) }
+    ensures at_most { IsFoundAtMost S.Store M.opens M.refuses M.closes (sources_of F.opens F.Opened.remaining databases.old.files.now N.reaches N.Stream.remaining databases.old.rt (R.remaining input.old)) databases.old.machine databases.new.machine (W.contents output.old) (W.contents output.new) rehearsing.now.source (IsRehearsedAtMost (Gives (after (rest_by rehearsing.now.source) (sources_of F.opens F.Opened.remaining databases.old.files.now N.reaches N.Stream.remaining databases.old.rt (R.remaining input.old))) (path_of rehearsing.now.file)) (W.contents output.old) (W.contents output.new) rehearsing.now) }
 {
-    let source = &rehearsing.source;
+    let (files, source) = (databases.files, &rehearsing.source);
     let tables = match tables_at(databases, alloc, source, input, output, errors) {
         Ok(tables) => tables,
         Err(status) => return status,
     };
-    let files = databases.files;
     rehearse_over(files, alloc, &tables, rehearsing, input, output, errors)
 }

@@ -3,6 +3,7 @@ ghost use Rattle.std.specs.Prelude.{◌≡◌, ◌⊎◌, ◌++◌, IfOk, List, 
 ghost use Rattle.std.specs.Io.KnownBytes.{Appends};
 ghost use Rattle.prt_questions.specs.Analyses.{IsNotRead};
 ghost use Rattle.prt_questions.specs.Asking.{IsAskedOf, IsCutOff, IsWithImpact, IsWithImpactOf, comment_of, comments_of};
+ghost use Rattle.prt_questions.specs.Sources.{sources_of};
 
 use crate::asking::{REFUSED, report_none, write_made};
 use crate::databases::DatabaseFiles;
@@ -15,12 +16,11 @@ use prt_ask::{Answered, Comparison, Question, answer};
 use prt_impact::{Group, impact, push_group_line};
 use prt_import::accept_over;
 use prt_partition::Sameness;
-use prt_program::Refusal;
+use prt_program::{ReadFiles, Refusal};
 use prt_version::Version;
 use prt_words::{DONE, FAULT, Source};
 use sqlite::{Alter, Connection};
 use std::alloc::{AllocError, Global};
-use std::fs::Files;
 use std::io::{Read, Write};
 use std::sync::Wait;
 
@@ -87,7 +87,7 @@ fn write_difference<W: Write, E: Write>(
 pub(crate) fn diff_with_impact<
     S: Alter + Drop,
     M: Machine<Connection<S>> + Drop,
-    F: Files,
+    F: ReadFiles,
     N: LocalNet + Wait + Copy + Drop,
     R: Read,
     W: Write,
@@ -102,9 +102,9 @@ pub(crate) fn diff_with_impact<
     errors: &mut E,
 ) -> u8
     ensures status { (result ≡ DONE) ⊎ ((result ≡ REFUSED) ⊎ (result ≡ FAULT)) }
-    ensures whole { result ≡ DONE → IsAskedOf S.Store M.opens M.refuses M.closes databases.old.machine databases.new.machine source.now (λ state. (text : List ℕ) × IsWithImpact comparison.now.fence.now comparison.now.found.now state text × Appends (W.contents output.old) (W.contents output.new) text) }
-    ensures at_most { ((W.contents output.new ≡ W.contents output.old) × IsNotRead S.Store M.opens M.refuses M.closes databases.old.machine databases.new.machine source.now)
-        ⊎ IsAskedOf S.Store M.opens M.refuses M.closes databases.old.machine databases.new.machine source.now (λ state. (text : List ℕ) × IsWithImpact comparison.now.fence.now comparison.now.found.now state text × IsCutOff text (W.contents output.old) (W.contents output.new)) }
+    ensures whole { result ≡ DONE → IsAskedOf S.Store M.opens M.refuses M.closes (sources_of F.opens F.Opened.remaining databases.old.files.now N.reaches N.Stream.remaining databases.old.rt (R.remaining input.old)) databases.old.machine databases.new.machine source.now (λ state. (text : List ℕ) × IsWithImpact comparison.now.fence.now comparison.now.found.now state text × Appends (W.contents output.old) (W.contents output.new) text) }
+    ensures at_most { ((W.contents output.new ≡ W.contents output.old) × IsNotRead S.Store M.opens M.refuses M.closes (sources_of F.opens F.Opened.remaining databases.old.files.now N.reaches N.Stream.remaining databases.old.rt (R.remaining input.old)) databases.old.machine databases.new.machine source.now)
+        ⊎ IsAskedOf S.Store M.opens M.refuses M.closes (sources_of F.opens F.Opened.remaining databases.old.files.now N.reaches N.Stream.remaining databases.old.rt (R.remaining input.old)) databases.old.machine databases.new.machine source.now (λ state. (text : List ℕ) × IsWithImpact comparison.now.fence.now comparison.now.found.now state text × IsCutOff text (W.contents output.old) (W.contents output.new)) }
 {
     let tables = match tables_at(databases, alloc, source, input, output, errors) {
         Ok(tables) => tables,

@@ -1,6 +1,7 @@
 //! What `ip` prints, as a script, and what differs from it.
-ghost use Rattle.std.specs.Prelude.{◌≡◌, ◌⊎◌, IfErr, IfOk, [], option_map};
-ghost use Rattle.prt_questions.specs.Asking.{HasCompared, HasComparedAtMost, IsAskedOf, IsListing, IsNotAsked, IsWholeListing, said};
+ghost use Rattle.std.specs.Prelude.{◌≡◌, ◌⊎◌, IfErr, IfOk, OnOk, []};
+ghost use Rattle.prt_questions.specs.Asking.{AreKept, AreLinesOf, HasCompared, HasComparedAtMost, IsAskedOf, IsListing, IsMadeOf, IsNotAsked, IsWholeListing, said};
+ghost use Rattle.prt_questions.specs.Sources.{HasLeft, IsFileOf, IsRead, path_of, rest_after, sources_of};
 ghost use Rattle.prt_questions.specs.Importing.{HasImported, HasImportedAtMost, IsImported, IsImportedAtMost};
 ghost use Rattle.prt_import.specs.Imported.{IsImportOf};
 ghost use Rattle.prt_import.specs.TableNames.{KnownNames};
@@ -19,16 +20,17 @@ use crate::reading::{host_names, read_whole, report_no_memory, report_unread};
 use prt_ask::{Comparison, Question};
 use prt_import::{Accepted, Imported, Left, Names, accept, check_listing, import};
 use prt_ip_json::{NotListed, is_json, listing_of};
-use prt_program::Refusal;
+use prt_program::{ReadFiles, Refusal};
 use prt_words::{DONE, Diffing, FAULT, Form, Importing, Labels, Shown, Source};
 use sqlite::{Alter, Connection};
-use std::alloc::{Alloc, Global};
-use std::fs::Files;
+use std::alloc::Global;
 use std::io::{Read, Write};
 use std::sync::Wait;
 
 /// Returns the lines of what `ip` printed, also if that is the JSON of `ip -j`.
-fn lines_of(alloc: Global, text: Vec<u8>) -> Result<Vec<u8>, NotListed> {
+fn lines_of(alloc: Global, text: Vec<u8>) -> Result<Vec<u8>, NotListed>
+    ensures { IfOk result (λ lines. AreLinesOf text.items lines.items) }
+{
     if is_json(&text) {
         listing_of(alloc, &text)
     } else {
@@ -37,11 +39,7 @@ fn lines_of(alloc: Global, text: Vec<u8>) -> Result<Vec<u8>, NotListed> {
 }
 
 /// Makes a script of lines, by the names that iproute2 has.
-fn script_of<F: Files + Alloc + Clone + Drop>(
-    files: &F,
-    alloc: Global,
-    lines: &[u8],
-) -> Result<Imported, Refusal>
+fn script_of<F: ReadFiles>(files: &F, alloc: Global, lines: &[u8]) -> Result<Imported, Refusal>
     ensures { IfOk result (λ imported. (names : KnownNames) × IsImportOf imported names lines.now) }
 {
     let names = host_names(files, alloc)?;
@@ -54,15 +52,15 @@ fn script_of<F: Files + Alloc + Clone + Drop>(
 /// # Errors
 ///
 /// `NoMemory` alone.
-fn keep_lines<F: Files + Alloc + Clone + Drop, E: Write>(
+fn keep_lines<F: ReadFiles, E: Write>(
     files: &F,
     alloc: Global,
     lines: &[u8],
     errors: &mut E,
 ) -> Result<(Accepted, u8, Vec<Left>), Refusal>
-    ensures made { IfOk result (λ read. IsListing read.0) }
+    ensures made { IfOk result (λ read. IsMadeOf lines.now read.0) }
     ensures status { IfOk result (λ read. (read.1 ≡ DONE) ⊎ (read.1 ≡ REFUSED)) }
-    ensures kept { IfOk result (λ read. read.1 ≡ DONE → IsWholeListing read.0) }
+    ensures kept { IfOk result (λ read. read.1 ≡ DONE → AreKept lines.now read.0) }
 {
     let imported = match script_of(files, alloc, lines) {
         Ok(imported) => imported,
@@ -84,7 +82,7 @@ fn keep_lines<F: Files + Alloc + Clone + Drop, E: Write>(
 /// # Errors
 ///
 /// The exit status, if it can't be read, isn't a whole listing of IPv4, or memory is refused.
-pub(crate) fn read_listing<F: Files + Alloc + Clone + Drop, R: Read, W: Write, E: Write>(
+pub(crate) fn read_listing<F: ReadFiles, R: Read, W: Write, E: Write>(
     files: &F,
     alloc: Global,
     file: Option<&str>,
@@ -92,9 +90,10 @@ pub(crate) fn read_listing<F: Files + Alloc + Clone + Drop, R: Read, W: Write, E
     output: &mut W,
     errors: &mut E,
 ) -> Result<(Accepted, u8, Vec<Left>), u8>
-    ensures made { IfOk result (λ read. IsListing read.0) }
+    ensures made { IfOk result (λ read. IsListing (IsRead (IsFileOf F.opens F.Opened.remaining files.now) (R.remaining input.old) (path_of file.entry)) read.0) }
     ensures status { IfOk result (λ read. (read.1 ≡ DONE) ⊎ (read.1 ≡ REFUSED)) }
-    ensures kept { IfOk result (λ read. read.1 ≡ DONE → IsWholeListing read.0) }
+    ensures kept { IfOk result (λ read. read.1 ≡ DONE → IsWholeListing (IsRead (IsFileOf F.opens F.Opened.remaining files.now) (R.remaining input.old) (path_of file.entry)) read.0) }
+    ensures left { OnOk result (HasLeft (rest_after (path_of file.entry)) (R.remaining input.old) (R.remaining input.new)) }
     ensures fault { IfErr result (λ status. status ≡ FAULT) }
     ensures unwritten { W.contents output.new ≡ W.contents output.old }
 {
@@ -117,7 +116,7 @@ pub(crate) fn read_listing<F: Files + Alloc + Clone + Drop, R: Read, W: Write, E
 fn print_or_make<
     S: Alter + Drop,
     M: Machine<Connection<S>> + Drop,
-    F: Files,
+    F,
     N: Wait + Copy + Drop,
     W: Write,
     E: Write,
@@ -130,8 +129,8 @@ fn print_or_make<
     errors: &mut E,
 ) -> u8
     ensures status { (result ≡ DONE) ⊎ (result ≡ FAULT) }
-    ensures whole { result ≡ DONE → IsImported S.Store M.opens M.refuses M.closes databases.old.machine databases.new.machine (W.contents output.old) (W.contents output.new) (option_map (λ path. path.now) database.entry) accepted }
-    ensures at_most { IsImportedAtMost S.Store M.opens M.refuses M.closes databases.old.machine databases.new.machine (W.contents output.old) (W.contents output.new) (option_map (λ path. path.now) database.entry) accepted }
+    ensures whole { result ≡ DONE → IsImported S.Store M.opens M.refuses M.closes databases.old.machine databases.new.machine (W.contents output.old) (W.contents output.new) (path_of database.entry) accepted }
+    ensures at_most { IsImportedAtMost S.Store M.opens M.refuses M.closes databases.old.machine databases.new.machine (W.contents output.old) (W.contents output.new) (path_of database.entry) accepted }
 {
     match database {
         Some(path) => {
@@ -151,8 +150,8 @@ fn print_or_make<
 pub(crate) fn import_listing<
     S: Alter + Drop,
     M: Machine<Connection<S>> + Drop,
-    F: Files + Alloc + Clone + Drop,
-    N: Wait + Copy + Drop,
+    F: ReadFiles,
+    N: LocalNet + Wait + Copy + Drop,
     R: Read,
     W: Write,
     E: Write,
@@ -165,8 +164,8 @@ pub(crate) fn import_listing<
     errors: &mut E,
 ) -> u8
     ensures status { (result ≡ DONE) ⊎ ((result ≡ REFUSED) ⊎ (result ≡ FAULT)) }
-    ensures whole { result ≡ DONE → HasImported S.Store M.opens M.refuses M.closes databases.old.machine databases.new.machine (W.contents output.old) (W.contents output.new) (option_map (λ path. path.now) importing.now.database) }
-    ensures at_most { HasImportedAtMost S.Store M.opens M.refuses M.closes databases.old.machine databases.new.machine (W.contents output.old) (W.contents output.new) (option_map (λ path. path.now) importing.now.database) }
+    ensures whole { result ≡ DONE → HasImported S.Store M.opens M.refuses M.closes (sources_of F.opens F.Opened.remaining databases.old.files.now N.reaches N.Stream.remaining databases.old.rt (R.remaining input.old)) databases.old.machine databases.new.machine (W.contents output.old) (W.contents output.new) (path_of importing.now.file) (path_of importing.now.database) }
+    ensures at_most { HasImportedAtMost S.Store M.opens M.refuses M.closes (sources_of F.opens F.Opened.remaining databases.old.files.now N.reaches N.Stream.remaining databases.old.rt (R.remaining input.old)) databases.old.machine databases.new.machine (W.contents output.old) (W.contents output.new) (path_of importing.now.file) (path_of importing.now.database) }
 {
     let read = read_listing(
         databases.files,
@@ -197,7 +196,7 @@ pub(crate) fn import_listing<
 fn compare<
     S: Alter + Drop,
     M: Machine<Connection<S>> + Drop,
-    F: Files,
+    F: ReadFiles,
     N: LocalNet + Wait + Copy + Drop,
     R: Read,
     E: Write,
@@ -210,8 +209,8 @@ fn compare<
     errors: &mut E,
 ) -> u8
     ensures status { (result ≡ DONE) ⊎ ((result ≡ REFUSED) ⊎ (result ≡ FAULT)) }
-    ensures same { result ≡ DONE → IsAskedOf S.Store M.opens M.refuses M.closes databases.old.machine databases.new.machine source.now (λ state. said inquiry.now state ≡ []) }
-    ensures part { IsNotAsked S.Store M.opens M.refuses M.closes databases.old.machine databases.new.machine source.now ⊎ IsAskedOf S.Store M.opens M.refuses M.closes databases.old.machine databases.new.machine source.now (λ state. Unit {0}) }
+    ensures same { result ≡ DONE → IsAskedOf S.Store M.opens M.refuses M.closes (sources_of F.opens F.Opened.remaining databases.old.files.now N.reaches N.Stream.remaining databases.old.rt (R.remaining input.old)) databases.old.machine databases.new.machine source.now (λ state. said inquiry.now state ≡ []) }
+    ensures part { IsNotAsked S.Store M.opens M.refuses M.closes databases.old.machine databases.new.machine source.now ⊎ IsAskedOf S.Store M.opens M.refuses M.closes (sources_of F.opens F.Opened.remaining databases.old.files.now N.reaches N.Stream.remaining databases.old.rt (R.remaining input.old)) databases.old.machine databases.new.machine source.now (λ state. Unit {0}) }
 {
     let mut lines: Vec<u8> = Vec::new(alloc);
     let asked = ask_source(databases, alloc, source, inquiry, input, &mut lines, errors);
@@ -234,7 +233,7 @@ fn compare<
 pub(crate) fn diff<
     S: Alter + Drop,
     M: Machine<Connection<S>> + Drop,
-    F: Files + Alloc + Clone + Drop,
+    F: ReadFiles,
     N: LocalNet + Wait + Copy + Drop,
     R: Read,
     W: Write,
@@ -248,8 +247,8 @@ pub(crate) fn diff<
     errors: &mut E,
 ) -> u8
     ensures status { (result ≡ DONE) ⊎ ((result ≡ REFUSED) ⊎ (result ≡ FAULT)) }
-    ensures whole { result ≡ DONE → HasCompared S.Store M.opens M.refuses M.closes databases.old.machine databases.new.machine (W.contents output.old) (W.contents output.new) diffing.now.reach diffing.now.shown diffing.now.source }
-    ensures at_most { HasComparedAtMost S.Store M.opens M.refuses M.closes databases.old.machine databases.new.machine (W.contents output.old) (W.contents output.new) diffing.now.reach diffing.now.shown diffing.now.source }
+    ensures whole { result ≡ DONE → HasCompared S.Store M.opens M.refuses M.closes (sources_of F.opens F.Opened.remaining databases.old.files.now N.reaches N.Stream.remaining databases.old.rt (R.remaining input.old)) databases.old.machine databases.new.machine (W.contents output.old) (W.contents output.new) (path_of diffing.now.file) diffing.now.reach diffing.now.shown diffing.now.source }
+    ensures at_most { HasComparedAtMost S.Store M.opens M.refuses M.closes (sources_of F.opens F.Opened.remaining databases.old.files.now N.reaches N.Stream.remaining databases.old.rt (R.remaining input.old)) databases.old.machine databases.new.machine (W.contents output.old) (W.contents output.new) (path_of diffing.now.file) diffing.now.reach diffing.now.shown diffing.now.source }
 {
     let read = read_listing(databases.files, alloc, diffing.file, input, output, errors);
     let (accepted, left, unread) = match read {

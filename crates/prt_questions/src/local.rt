@@ -1,7 +1,10 @@
 //! Unix sockets as connections of the network.
+ghost use Rattle.std.specs.Prelude.{IfOk};
 
-use std::io;
-use std::net::{Net, TcpListener, TcpStream};
+use prt_words::ServerPlace;
+use std::alloc::Global;
+use std::io::{self, Write};
+use std::net::{Net, OpenStream, SocketAddr, TcpListener, TcpStream};
 use std::os::fd::{AsFd, OwnedFd};
 use std::os::unix::net::{UnixListener, UnixStream};
 use std::time::Duration;
@@ -33,6 +36,29 @@ impl Socket {
 
 /// A network whose connections may come by Unix sockets too.
 pub trait LocalNet: Net {
+    ghost use Rattle.std.specs.Prelude.{List, ℕ};
+    ghost use Rattle.prt_words.specs.declared.server_place.ServerPlace.{ServerPlace as Place};
+    ghost use Rattle.prt_questions.specs.declared.local.Socket.{Socket};
+
+    /// That a connection to this socket of the server at a place, over which these bytes were sent, may be this.
+    ghost reaches: { Self → Place → Socket → List ℕ → Self.Stream → Type 0 };
+
+    /// Connects to the server at a place, and sends it these bytes. At an address `socket` says nothing. No read and no write
+    /// of the connection waits for longer than `patience`.
+    ///
+    /// # Errors
+    ///
+    /// The system's. `WouldBlock` or `TimedOut` if the server doesn't take the bytes in time.
+    fn reach(
+        &self,
+        alloc: Global,
+        place: &ServerPlace<'_>,
+        socket: Socket,
+        patience: Duration,
+        sent: &[u8],
+    ) -> io::Result<Self::Stream>
+        ensures { IfOk result (reaches self.now place.now socket sent.now) };
+
     /// Makes a connection of the network of one by a Unix socket. Its calls are those of the socket; one that only TCP has
     /// fails.
     fn stream_of(stream: UnixStream) -> Self::Stream;
@@ -60,7 +86,57 @@ pub fn set_local_accept_timeout(listener: &UnixListener, patience: Duration) -> 
     limit_accept(listener.as_fd().try_clone_to_owned()?, patience)
 }
 
+/// Connects to a socket in a folder.
+fn connect_in(
+    rt: &HostRuntime,
+    alloc: Global,
+    folder: &str,
+    socket: Socket,
+) -> io::Result<TcpStream> {
+    let path = format!(in alloc; "{folder}/{}", socket.name())?;
+    let stream = UnixStream::connect(rt, path.as_str())?;
+    Ok(TcpStream::from(OwnedFd::from(stream)))
+}
+
+/// Connects to a server: to its address, or to a socket in its folder. No read and no write waits for longer than this.
+fn connect(
+    rt: &HostRuntime,
+    alloc: Global,
+    place: &ServerPlace<'_>,
+    socket: Socket,
+    patience: Duration,
+) -> io::Result<TcpStream> {
+    let stream = match place {
+        ServerPlace::Address(address) => {
+            TcpStream::connect_timeout(rt, &SocketAddr::V4(*address), patience)?
+        }
+        ServerPlace::Folder(folder) => connect_in(rt, alloc, folder, socket)?,
+    };
+    // A server that hangs would keep its client without end.
+    stream.set_read_timeout(Some(patience))?;
+    stream.set_write_timeout(Some(patience))?;
+    Ok(stream)
+}
+
 impl LocalNet for HostRuntime {
+    ghost use Rattle.std.specs.Prelude.{⊤};
+
+    // Who is at a place, and what it sends, is not known.
+    ghost reaches = { λ _ _ _ _ _. ⊤ };
+
+    fn reach(
+        &self,
+        alloc: Global,
+        place: &ServerPlace<'_>,
+        socket: Socket,
+        patience: Duration,
+        sent: &[u8],
+    ) -> io::Result<TcpStream> {
+        let mut stream = connect(self, alloc, place, socket, patience)?;
+        stream.write_all(sent)?;
+        Ok(stream)
+    }
+
     fn stream_of(stream: UnixStream) -> TcpStream {
         TcpStream::from(OwnedFd::from(stream))
     }

@@ -16,12 +16,13 @@ pub enum Wanted {
 /// Opens and closes the database files of a machine. An open one is a connection `C`.
 pub trait Machine<C> {
     ghost use Rattle.std.specs.Prelude.{List, ℕ};
+    ghost use Rattle.prt_questions.specs.declared.machine.Wanted.{Wanted};
 
-    /// What an opening of the file at a path makes of the machine, if it returns this connection.
-    ghost opens: { Self → Self → List ℕ → C → Type 0 };
+    /// What an opening of the file at a path, if it is one that is wanted, makes of the machine. It returns this connection.
+    ghost opens: { Wanted → Self → Self → List ℕ → C → Type 0 };
 
     /// What an opening makes of it that returns none. No database is open then.
-    ghost refuses: { Self → Self → List ℕ → Type 0 };
+    ghost refuses: { Wanted → Self → Self → List ℕ → Type 0 };
 
     /// What the closing of this connection makes of it.
     ghost closes: { Self → Self → C → Type 0 };
@@ -36,9 +37,9 @@ pub trait Machine<C> {
     /// The library's; `CannotOpen` if there is none, and `NotADatabase` if it has no table of ours and such a one is wanted. No
     /// database is open then, and none was made.
     fn open(&mut self, path: &str, wanted: Wanted) -> Result<C, Error>
-        ensures opened { IfOk result (λ conn. opens self.old self.new path.now conn) }
+        ensures opened { IfOk result (λ conn. opens wanted self.old self.new path.now conn) }
         ensures there { wanted ≡ Wanted.Ours → OnOk result (is_there self.old path.now) }
-        ensures unopened { OnErr result (refuses self.old self.new path.now) };
+        ensures unopened { OnErr result (refuses wanted self.old self.new path.now) };
 
     /// Asks the system why the file at a path can't be opened for reading and writing and, if any is wanted, can't be made.
     /// Returns `None` if it can be.

@@ -34,10 +34,10 @@ pub fn open_publisher<S: Alter + Drop, M: Machine<Connection<S>>>(
     ensures ready { IfOk result (λ made. made.0.phase ≡ Phase.Ready) }
     ensures quiet { IfOk result (λ made. IsQuiet made.0.phase) }
     ensures sound { IfOk result (λ made. IsSound (line_state made.0.line)) }
-    ensures opened { IfOk result (λ made. OpensOne S.Store (M.opens machine.old machine.new path.now) made.0) }
+    ensures opened { IfOk result (λ made. OpensOne S.Store (M.opens wanted machine.old machine.new path.now) made.0) }
     ensures there { wanted ≡ Wanted.Ours → OnOk result (M.is_there machine.old path.now) }
     ensures reason { IfErr result (λ refused. IsOpenRefusal refused.0) }
-    ensures closed { IfErr result (λ refused. LeavesNoneOpen M.opens M.refuses M.closes S.Store refused.0 machine.old machine.new path.now) }
+    ensures closed { IfErr result (λ refused. LeavesNoneOpen (M.opens wanted) (M.refuses wanted) M.closes S.Store refused.0 machine.old machine.new path.now) }
 {
     match publisher_over(alloc, machine.open(path, wanted)) {
         Ok(made) => Ok(made),
@@ -70,10 +70,10 @@ pub(crate) fn open_desk<S: Alter + Drop, M: Machine<Connection<S>>, H: Wait + Co
     wanted: Wanted,
 ) -> Result<StoreDesk<S, H>, (Refusal, Option<Cause>)>
     ensures stands { IfOk result (λ desk. IsSound (published desk) × IsOpenOn (StandsFor S.Store) desk (published desk)) }
-    ensures opened { IfOk result (OpensOne S.Store (M.opens machine.old machine.new path.now)) }
+    ensures opened { IfOk result (OpensOne S.Store (M.opens wanted machine.old machine.new path.now)) }
     ensures there { wanted ≡ Wanted.Ours → OnOk result (M.is_there machine.old path.now) }
     ensures reason { IfErr result (λ refused. IsOpenRefusal refused.0) }
-    ensures closed { IfErr result (λ refused. LeavesNoneOpen M.opens M.refuses M.closes S.Store refused.0 machine.old machine.new path.now) }
+    ensures closed { IfErr result (λ refused. LeavesNoneOpen (M.opens wanted) (M.refuses wanted) M.closes S.Store refused.0 machine.old machine.new path.now) }
 {
     match open_publisher(machine, alloc, path, wanted) {
         Ok((publisher, domain)) => Ok(StoreDesk::new(rt, publisher, domain)),

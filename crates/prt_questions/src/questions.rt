@@ -1,6 +1,7 @@
 //! What is asked from outside a session.
 ghost use Rattle.std.specs.Prelude.{◌≡◌, ◌⊎◌};
 ghost use Rattle.prt_questions.specs.Done.{IsDone, IsDoneAtMost, IsFound};
+ghost use Rattle.prt_questions.specs.Sources.{sources_of};
 
 use crate::applying::apply;
 use crate::asking::{REFUSED, ask};
@@ -13,10 +14,10 @@ use crate::local::LocalNet;
 use crate::machine::Machine;
 use crate::searching::search;
 use crate::status::{CLOSED, show_status};
+use prt_program::ReadFiles;
 use prt_words::{Asked, DONE, FAULT};
 use sqlite::{Alter, Connection};
-use std::alloc::{Alloc, Global};
-use std::fs::Files;
+use std::alloc::Global;
 use std::io::{IsTerminal, Read, Write};
 use std::rt::Clock;
 use std::sync::Wait;
@@ -26,7 +27,7 @@ use std::sync::Wait;
 pub fn answer_question<
     S: Alter + Drop,
     M: Machine<Connection<S>> + Drop,
-    F: Files + Alloc + Clone + Clock + Drop,
+    F: ReadFiles,
     N: LocalNet + Wait + Clock + Copy + Drop,
     R: Read,
     W: Write + IsTerminal,
@@ -40,9 +41,9 @@ pub fn answer_question<
     errors: &mut E,
 ) -> u8
     ensures status { (result ≡ DONE) ⊎ ((result ≡ REFUSED) ⊎ ((result ≡ UNREADABLE) ⊎ ((result ≡ CLOSED) ⊎ (result ≡ FAULT)))) }
-    ensures whole { result ≡ DONE → IsDone S.Store M.opens M.refuses M.closes databases.old.machine databases.new.machine (W.contents output.old) (W.contents output.new) asked.now }
-    ensures found { result ≡ REFUSED → IsFound S.Store M.opens M.refuses M.closes databases.old.machine databases.new.machine (W.contents output.old) (W.contents output.new) asked.now }
-    ensures at_most { IsDoneAtMost S.Store M.opens M.refuses M.closes databases.old.machine databases.new.machine (W.contents output.old) (W.contents output.new) asked.now }
+    ensures whole { result ≡ DONE → IsDone S.Store M.opens M.refuses M.closes (sources_of F.opens F.Opened.remaining databases.old.files.now N.reaches N.Stream.remaining databases.old.rt (R.remaining input.old)) databases.old.machine databases.new.machine (W.contents output.old) (W.contents output.new) asked.now }
+    ensures found { result ≡ REFUSED → IsFound S.Store M.opens M.refuses M.closes (sources_of F.opens F.Opened.remaining databases.old.files.now N.reaches N.Stream.remaining databases.old.rt (R.remaining input.old)) databases.old.machine databases.new.machine (W.contents output.old) (W.contents output.new) asked.now }
+    ensures at_most { IsDoneAtMost S.Store M.opens M.refuses M.closes (sources_of F.opens F.Opened.remaining databases.old.files.now N.reaches N.Stream.remaining databases.old.rt (R.remaining input.old)) databases.old.machine databases.new.machine (W.contents output.old) (W.contents output.new) asked.now }
 {
     match asked {
         Asked::Tables(asking) => ask(databases, alloc, asking, input, output, errors),

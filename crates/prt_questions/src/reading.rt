@@ -1,20 +1,20 @@
 //! Files that are read whole: scripts, listings, and names of tables.
-ghost use Rattle.std.specs.Prelude.{◌≡◌, IfErr};
+ghost use Rattle.std.specs.Prelude.{◌≡◌, IfErr, IfOk, OnOk};
+ghost use Rattle.prt_questions.specs.Sources.{HasLeft, IsFileOf, IsRead, path_of, rest_after};
 
 use crate::telling::tell;
 use prt_import::{HostNames, Names};
-use prt_program::{Refusal, cause_message};
+use prt_program::{ReadFiles, Refusal, cause_message};
 use prt_words::{FAULT, Fault, Labels, STANDARD_INPUT, report};
-use std::alloc::{Alloc, AllocError, Global};
+use std::alloc::{AllocError, Global};
 use std::fmt::Display;
-use std::fs::{self, Files};
 use std::io::{self, Read, Write};
 
 /// Where iproute2 has names of one kind. Of two names of one number it shows the last one.
 struct Places {
     /// The first of these that exists counts.
     files: [&'static str; 2],
-    /// Each file of these whose name ends with `.conf` counts.
+    /// Each file of these whose name ends with `.conf` counts. A path ends with a slash.
     folders: [&'static str; 2],
 }
 
@@ -22,8 +22,8 @@ struct Places {
 const TABLES: Places = Places {
     files: ["/etc/iproute2/rt_tables", "/usr/share/iproute2/rt_tables"],
     folders: [
-        "/usr/share/iproute2/rt_tables.d",
-        "/etc/iproute2/rt_tables.d",
+        "/usr/share/iproute2/rt_tables.d/",
+        "/etc/iproute2/rt_tables.d/",
     ],
 };
 
@@ -31,25 +31,30 @@ const TABLES: Places = Places {
 const PROTOCOLS: Places = Places {
     files: ["/etc/iproute2/rt_protos", "/usr/share/iproute2/rt_protos"],
     folders: [
-        "/usr/share/iproute2/rt_protos.d",
-        "/etc/iproute2/rt_protos.d",
+        "/usr/share/iproute2/rt_protos.d/",
+        "/etc/iproute2/rt_protos.d/",
     ],
 };
 
 /// Reads a file whole.
-fn read_file<F: Files>(files: &F, alloc: Global, path: &str) -> io::Result<Vec<u8>> {
+fn read_file<F: ReadFiles>(files: &F, alloc: Global, path: &str) -> io::Result<Vec<u8>>
+    ensures { IfOk result (λ text. IsFileOf F.opens F.Opened.remaining files.now path.now text.items) }
+{
     let mut text = Vec::new(alloc);
-    fs::open(files, path)?.read_to_end(&mut text)?;
+    files.open_to_read(path)?.read_to_end(&mut text)?;
     Ok(text)
 }
 
 /// Reads a file whole, or the input if none is named.
-fn read_text<F: Files, R: Read>(
+fn read_text<F: ReadFiles, R: Read>(
     files: &F,
     alloc: Global,
     file: Option<&str>,
     input: &mut R,
-) -> io::Result<Vec<u8>> {
+) -> io::Result<Vec<u8>>
+    ensures read { IfOk result (λ text. IsRead (IsFileOf F.opens F.Opened.remaining files.now) (R.remaining input.old) (path_of file.entry) text.items) }
+    ensures left { OnOk result (HasLeft (rest_after (path_of file.entry)) (R.remaining input.old) (R.remaining input.new)) }
+{
     let Some(path) = file else {
         let mut text = Vec::new(alloc);
         input.read_to_end(&mut text)?;
@@ -80,7 +85,7 @@ pub(crate) fn report_unread<D: Display, W: Write, E: Write>(
 /// # Errors
 ///
 /// The exit status, if it can't be read; the cause is reported.
-pub(crate) fn read_whole<F: Files, R: Read, W: Write, E: Write>(
+pub(crate) fn read_whole<F: ReadFiles, R: Read, W: Write, E: Write>(
     files: &F,
     alloc: Global,
     file: Option<&str>,
@@ -88,6 +93,8 @@ pub(crate) fn read_whole<F: Files, R: Read, W: Write, E: Write>(
     output: &mut W,
     errors: &mut E,
 ) -> Result<Vec<u8>, u8>
+    ensures read { IfOk result (λ text. IsRead (IsFileOf F.opens F.Opened.remaining files.now) (R.remaining input.old) (path_of file.entry) text.items) }
+    ensures left { OnOk result (HasLeft (rest_after (path_of file.entry)) (R.remaining input.old) (R.remaining input.new)) }
     ensures fault { IfErr result (λ status. status ≡ FAULT) }
     ensures unwritten { W.contents output.new ≡ W.contents output.old }
 {
@@ -106,21 +113,21 @@ pub(crate) fn report_no_memory<W: Write, E: Write>(output: &mut W, errors: &mut 
 }
 
 /// Adds the names in the files of a folder whose names end with `.conf`. A folder that can't be read has none.
-fn add_names_in<F: Files + Alloc + Clone + Drop>(
+fn add_names_in<F: ReadFiles>(
     files: &F,
     alloc: Global,
     folder: &str,
     names: &mut Names,
 ) -> Result<(), AllocError> {
-    let Ok(entries) = fs::read_dir(files, folder) else {
+    let Ok(entries) = files.read_names(alloc, folder) else {
         return Ok(());
     };
-    for entry in entries {
-        let Ok(entry) = entry else {
+    for entry in entries.split(|byte| *byte == 0) {
+        let Ok(name) = str::from_utf8(entry) else {
             return Ok(());
         };
-        if entry.file_name().ends_with(".conf") {
-            let path = format!(in alloc; "{folder}/{}", entry.file_name())?;
+        if name.ends_with(".conf") {
+            let path = format!(in alloc; "{folder}{name}")?;
             if let Ok(text) = read_file(files, alloc, path.as_str()) {
                 names.read(&text)?;
             }
@@ -130,7 +137,7 @@ fn add_names_in<F: Files + Alloc + Clone + Drop>(
 }
 
 /// Adds the names in the first of these files that can be read.
-fn add_first_names<F: Files>(
+fn add_first_names<F: ReadFiles>(
     files: &F,
     alloc: Global,
     paths: &[&'static str],
@@ -145,7 +152,7 @@ fn add_first_names<F: Files>(
 }
 
 /// Reads the names that iproute2 has in these places. A file that can't be read has none.
-fn read_names<F: Files + Alloc + Clone + Drop>(
+fn read_names<F: ReadFiles>(
     files: &F,
     alloc: Global,
     places: &Places,
@@ -159,10 +166,7 @@ fn read_names<F: Files + Alloc + Clone + Drop>(
 }
 
 /// Reads the names of tables and of routing protocols that iproute2 has. A file that can't be read has none.
-pub(crate) fn host_names<F: Files + Alloc + Clone + Drop>(
-    files: &F,
-    alloc: Global,
-) -> Result<HostNames, AllocError> {
+pub(crate) fn host_names<F: ReadFiles>(files: &F, alloc: Global) -> Result<HostNames, AllocError> {
     Ok(HostNames {
         tables: read_names(files, alloc, &TABLES)?,
         protocols: read_names(files, alloc, &PROTOCOLS)?,
@@ -170,7 +174,7 @@ pub(crate) fn host_names<F: Files + Alloc + Clone + Drop>(
 }
 
 /// Returns the names of tables that an answer with these labels needs.
-pub(crate) fn names_for<F: Files + Alloc + Clone + Drop>(
+pub(crate) fn names_for<F: ReadFiles>(
     files: &F,
     alloc: Global,
     labels: Labels,

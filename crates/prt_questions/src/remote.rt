@@ -1,4 +1,10 @@
 //! What a server says: its feed the tables, a session the reply to a line.
+ghost use Rattle.std.specs.Prelude.{IfOk};
+ghost use Rattle.std.specs.Io.Buffered.{reader_remaining};
+ghost use Rattle.std.specs.Io.KnownBytes.{Keeps};
+ghost use Rattle.prt_questions.specs.Sources.{AreTold};
+ghost use Rattle.prt_questions.specs.Told.{IsReached, IsToldBy};
+
 use crate::local::{LocalNet, Socket};
 use itoa::Buffer;
 use prt_feed::{NotRead, read_opening};
@@ -7,8 +13,7 @@ use prt_version::Version;
 use prt_words::ServerPlace;
 use std::alloc::{AllocError, Global};
 use std::io::{self, BufRead, BufReader, ErrorKind, Read, Write};
-use std::net::{OpenStream, Shutdown, SocketAddr, TcpStream};
-use std::os::unix::net::UnixStream;
+use std::net::{OpenStream, Shutdown};
 use std::time::Duration;
 use thiserror::Error;
 
@@ -99,7 +104,9 @@ pub(crate) enum Told {
 }
 
 /// Returns the first byte that comes, if the connection isn't closed before.
-fn first_byte<R: Read>(reader: &mut BufReader<R>) -> io::Result<Option<u8>> {
+fn first_byte<R: Read>(reader: &mut BufReader<R>) -> io::Result<Option<u8>>
+    ensures { Keeps (reader_remaining R.remaining reader.old) (reader_remaining R.remaining reader.new) }
+{
     Ok(reader.fill_buf()?.first().copied())
 }
 
@@ -108,7 +115,9 @@ fn first_byte<R: Read>(reader: &mut BufReader<R>) -> io::Result<Option<u8>> {
 fn is_feed<T: Read + Write + OpenStream>(
     reader: &mut BufReader<T>,
     stream: &mut T,
-) -> io::Result<bool> {
+) -> io::Result<bool>
+    ensures { Keeps (reader_remaining T.remaining reader.old) (reader_remaining T.remaining reader.new) }
+{
     stream.set_read_timeout(Some(Duration::from_secs(TRY)))?;
     let came = first_byte(reader);
     stream.set_read_timeout(Some(Duration::from_secs(PATIENCE)))?;
@@ -125,49 +134,21 @@ fn is_feed<T: Read + Write + OpenStream>(
     Ok(first.is_none() || first == Some(FEED))
 }
 
-/// Connects to a socket in a folder.
-fn connect_in<N: LocalNet>(
-    rt: &N,
-    alloc: Global,
-    folder: &str,
-    socket: Socket,
-) -> io::Result<N::Stream> {
-    let path = format!(in alloc; "{folder}/{}", socket.name())?;
-    Ok(N::stream_of(UnixStream::connect(rt, path.as_str())?))
-}
-
-/// Connects to a server: to its address, or to a socket in its folder. No read and no write waits for longer than this.
-pub(crate) fn connect<N: LocalNet>(
-    rt: &N,
-    alloc: Global,
-    place: &ServerPlace<'_>,
-    socket: Socket,
-    patience: Duration,
-) -> io::Result<N::Stream> {
-    let stream = match place {
-        ServerPlace::Address(address) => {
-            TcpStream::connect_timeout(rt, &SocketAddr::V4(*address), patience)?
-        }
-        ServerPlace::Folder(folder) => connect_in(rt, alloc, folder, socket)?,
-    };
-    // A server that hangs would keep its client without end.
-    stream.set_read_timeout(Some(patience))?;
-    stream.set_write_timeout(Some(patience))?;
-    Ok(stream)
-}
-
-/// Connects to the sessions of a server, or to its feed if the sessions of its folder may not be opened.
-fn connect_to_ask<N: LocalNet>(
+/// Connects to the sessions of a server, or to its feed if the sessions of its folder may not be opened, and sends this.
+fn reach_to_ask<N: LocalNet>(
     rt: &N,
     alloc: Global,
     place: &ServerPlace<'_>,
     patience: Duration,
-) -> io::Result<N::Stream> {
-    match connect(rt, alloc, place, Socket::Session, patience) {
+    sent: &[u8],
+) -> io::Result<N::Stream>
+    ensures { IfOk result (IsReached N.reaches rt.now place.now sent.now) }
+{
+    match rt.reach(alloc, place, Socket::Session, patience, sent) {
         Err(error) if error.kind() == ErrorKind::PermissionDenied => {
-            connect(rt, alloc, place, Socket::Feed, patience)
+            rt.reach(alloc, place, Socket::Feed, patience, sent)
         }
-        connected => connected,
+        reached => reached,
     }
 }
 
@@ -180,9 +161,11 @@ pub(crate) fn open_feed<N: LocalNet>(
     rt: &N,
     alloc: Global,
     place: &ServerPlace<'_>,
-) -> Result<(BufReader<N::Stream>, Version), NotTold> {
+) -> Result<(BufReader<N::Stream>, Version), NotTold>
+    ensures { IfOk result (λ opened. AreTold N.reaches N.Stream.remaining rt.now place.now opened.1) }
+{
     let patience = Duration::from_secs(PATIENCE);
-    let stream = connect(rt, alloc, place, Socket::Feed, patience)?;
+    let stream = rt.reach(alloc, place, Socket::Feed, patience, &[])?;
     let mut same = stream.try_clone()?;
     let mut reader = BufReader::new(alloc, stream)?;
     if !is_feed(&mut reader, &mut same)? {
@@ -200,7 +183,9 @@ pub(crate) fn read_tables<N: LocalNet>(
     rt: &N,
     alloc: Global,
     place: &ServerPlace<'_>,
-) -> Result<Version, NotTold> {
+) -> Result<Version, NotTold>
+    ensures { IfOk result (AreTold N.reaches N.Stream.remaining rt.now place.now) }
+{
     let (_, version) = open_feed(rt, alloc, place)?;
     Ok(version)
 }
@@ -211,8 +196,7 @@ pub(crate) fn is_there<N: LocalNet>(
     alloc: Global,
     place: &ServerPlace<'_>,
 ) -> io::Result<bool> {
-    let mut stream = connect_to_ask(rt, alloc, place, Duration::from_secs(TRY))?;
-    stream.write_all(QUERY)?;
+    let mut stream = reach_to_ask(rt, alloc, place, Duration::from_secs(TRY), QUERY)?;
     let mut byte = [0u8; 1];
     let count = stream.read(&mut byte)?;
     Ok(count != 0)
@@ -235,10 +219,13 @@ pub(crate) fn ask_line<N: LocalNet>(
     alloc: Global,
     place: &ServerPlace<'_>,
     line: &[u8],
-) -> Result<Told, NotTold> {
-    let mut stream = connect_to_ask(rt, alloc, place, Duration::from_secs(PATIENCE))?;
-    stream.write_all(line)?;
-    stream.write_all(b"\n")?;
+) -> Result<Told, NotTold>
+    ensures { IfOk result (IsToldBy N.reaches N.Stream.remaining rt.now place.now line.now) }
+{
+    let patience = Duration::from_secs(PATIENCE);
+    let mut sent = Vec::from_slice(alloc, line)?;
+    sent.extend_from_slice(b"\n")?;
+    let stream = reach_to_ask(rt, alloc, place, patience, &sent)?;
     // A session ends with its last line.
     stream.shutdown(Shutdown::Write)?;
     let mut reader = BufReader::new(alloc, stream)?;
@@ -293,8 +280,7 @@ pub(crate) fn expect_atomic<N: LocalNet>(
     place: &ServerPlace<'_>,
 ) -> Result<(), NotTold> {
     let patience = Duration::from_secs(PATIENCE);
-    let mut stream = connect(rt, alloc, place, Socket::Atomic, patience)?;
-    stream.write_all(NO_NUMBER)?;
+    let mut stream = rt.reach(alloc, place, Socket::Atomic, patience, NO_NUMBER)?;
     stream.shutdown(Shutdown::Write)?;
     let mut byte = [0u8; 1];
     let count = stream.read(&mut byte)?;
@@ -319,10 +305,9 @@ pub(crate) fn send_changes<N: LocalNet>(
     lines: &[u8],
 ) -> Result<Made, NotTold> {
     let patience = Duration::from_secs(PATIENCE);
-    let mut stream = connect(rt, alloc, atomic, Socket::Atomic, patience)?;
     // What is cut off before its last command is not made.
     let head = format!(in alloc; "at {number}\ncommands {count}\n")?;
-    stream.write_all(head.as_bytes())?;
+    let mut stream = rt.reach(alloc, atomic, Socket::Atomic, patience, head.as_bytes())?;
     stream.write_all(lines)?;
     stream.shutdown(Shutdown::Write)?;
     let mut reply = Vec::new(alloc);
@@ -361,7 +346,7 @@ pub(crate) fn read_status<N: LocalNet>(
 ) -> Result<Vec<u8>, NotTold> {
     let place = ServerPlace::Folder(folder);
     let patience = Duration::from_secs(PATIENCE);
-    let mut stream = connect(rt, alloc, &place, Socket::Status, patience)?;
+    let mut stream = rt.reach(alloc, &place, Socket::Status, patience, &[])?;
     let mut said = Vec::new(alloc);
     stream.read_to_end(&mut said)?;
     Ok(said)

@@ -2,6 +2,7 @@
 ghost use Rattle.std.specs.Prelude.{◌≡◌, ◌⊎◌, [], IfOk, true};
 ghost use Rattle.prt_unused.specs.Text.{unused_text};
 ghost use Rattle.prt_questions.specs.Analyses.{IsFoundAtMost, IsFoundOf, IsSearched, IsSearchedAtMost};
+ghost use Rattle.prt_questions.specs.Sources.{sources_of};
 
 use crate::asking::{REFUSED, write_text};
 use crate::databases::DatabaseFiles;
@@ -10,12 +11,11 @@ use crate::local::LocalNet;
 use crate::machine::Machine;
 use crate::reading::report_no_memory;
 use crate::tables::{Tables, tables_at};
-use prt_program::Refusal;
+use prt_program::{ReadFiles, Refusal};
 use prt_unused::{Unused, unused, unused_text};
 use prt_words::{DONE, FAULT, Source};
 use sqlite::{Alter, Connection};
 use std::alloc::Global;
-use std::fs::Files;
 use std::io::{Read, Write};
 use std::sync::Wait;
 
@@ -74,7 +74,7 @@ fn search_over<W: Write, E: Write>(
 pub(crate) fn search<
     S: Alter + Drop,
     M: Machine<Connection<S>> + Drop,
-    F: Files,
+    F: ReadFiles,
     N: LocalNet + Wait + Copy + Drop,
     R: Read,
     W: Write,
@@ -88,8 +88,8 @@ pub(crate) fn search<
     errors: &mut E,
 ) -> u8
     ensures status { (result ≡ DONE) ⊎ ((result ≡ REFUSED) ⊎ (result ≡ FAULT)) }
-    ensures found { (result ≡ DONE) ⊎ (result ≡ REFUSED) → IsFoundOf S.Store M.opens M.refuses M.closes databases.old.machine databases.new.machine source.now (IsSearched (W.contents output.old) (W.contents output.new) result) }
-    ensures at_most { IsFoundAtMost S.Store M.opens M.refuses M.closes databases.old.machine databases.new.machine (W.contents output.old) (W.contents output.new) source.now (IsSearchedAtMost (W.contents output.old) (W.contents output.new)) }
+    ensures found { (result ≡ DONE) ⊎ (result ≡ REFUSED) → IsFoundOf S.Store M.opens M.refuses M.closes (sources_of F.opens F.Opened.remaining databases.old.files.now N.reaches N.Stream.remaining databases.old.rt (R.remaining input.old)) databases.old.machine databases.new.machine source.now (IsSearched (W.contents output.old) (W.contents output.new) result) }
+    ensures at_most { IsFoundAtMost S.Store M.opens M.refuses M.closes (sources_of F.opens F.Opened.remaining databases.old.files.now N.reaches N.Stream.remaining databases.old.rt (R.remaining input.old)) databases.old.machine databases.new.machine (W.contents output.old) (W.contents output.new) source.now (IsSearchedAtMost (W.contents output.old) (W.contents output.new)) }
 {
     let tables = match tables_at(databases, alloc, source, input, output, errors) {
         Ok(tables) => tables,

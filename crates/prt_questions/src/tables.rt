@@ -4,6 +4,7 @@ ghost use Rattle.prt_import.specs.Accepted.{IsExecuted};
 ghost use Rattle.prt_import.specs.declared.accepted.Accepted.{Accepted as AcceptedOf};
 ghost use Rattle.prt_questions.specs.Analyses.{HaveTables, IsNotRead};
 ghost use Rattle.prt_questions.specs.Asking.{IsAskedAt, IsNotOpened};
+ghost use Rattle.prt_questions.specs.Sources.{AreTold, HasLeft, IsFileOf, IsRead, path_of, rest_after, rest_by, sources_of};
 
 use crate::asking::{REFUSED, run_over_new};
 use crate::databases::DatabaseFiles;
@@ -14,12 +15,11 @@ use crate::opening::open_desk;
 use crate::reading::{read_whole, report_no_memory};
 use crate::remote::read_tables;
 use crate::telling::tell;
-use prt_program::{cause_message, log_message};
+use prt_program::{ReadFiles, cause_message, log_message};
 use prt_version::Version;
 use prt_words::{DONE, FAULT, Fault, ServerPlace, Source, report};
 use sqlite::{Alter, Connection};
 use std::alloc::Global;
-use std::fs::Files;
 use std::io::{Read, Write};
 use std::sync::Wait;
 
@@ -39,7 +39,7 @@ pub(crate) struct Tables {
 fn database_tables<
     S: Alter + Drop,
     M: Machine<Connection<S>> + Drop,
-    F: Files,
+    F,
     H: Wait + Copy + Drop,
     W: Write,
     E: Write,
@@ -52,7 +52,7 @@ fn database_tables<
 ) -> Result<Tables, u8>
     ensures read { IfOk result (λ tables. IsAskedAt S.Store M.opens M.refuses M.closes databases.old.machine databases.new.machine path.now (λ state. tables.version ≡ state)) }
     ensures there { OnOk result (M.is_there databases.old.machine path.now) }
-    ensures unread { IfErr result (λ status. IsNotOpened S.Store M.opens M.refuses M.closes databases.old.machine databases.new.machine path.now ⊎ IsAskedAt S.Store M.opens M.refuses M.closes databases.old.machine databases.new.machine path.now (λ state. Unit {0})) }
+    ensures unread { IfErr result (λ status. IsNotOpened S.Store M.opens M.refuses M.closes databases.old.machine databases.new.machine Wanted.Ours path.now ⊎ IsAskedAt S.Store M.opens M.refuses M.closes databases.old.machine databases.new.machine path.now (λ state. Unit {0})) }
     ensures left { IfOk result (λ tables. (tables.left ≡ DONE) ⊎ (tables.left ≡ REFUSED)) }
     ensures fault { IfErr result (λ status. status ≡ FAULT) }
     ensures unwritten { W.contents output.new ≡ W.contents output.old }
@@ -93,6 +93,7 @@ fn server_tables<N: LocalNet, E: Write>(
     place: &ServerPlace<'_>,
     errors: &mut E,
 ) -> Result<Tables, u8>
+    ensures told { IfOk result (λ tables. AreTold N.reaches N.Stream.remaining rt.now place.now tables.version) }
     ensures left { IfOk result (λ tables. (tables.left ≡ DONE) ⊎ (tables.left ≡ REFUSED)) }
     ensures fault { IfErr result (λ status. status ≡ FAULT) }
 {
@@ -113,7 +114,7 @@ fn server_tables<N: LocalNet, E: Write>(
 /// # Errors
 ///
 /// The exit status: the script can't be read, or memory is refused. Standard error has the cause.
-fn script_tables<F: Files, R: Read, W: Write, E: Write>(
+fn script_tables<F: ReadFiles, R: Read, W: Write, E: Write>(
     files: &F,
     alloc: Global,
     file: Option<&str>,
@@ -121,7 +122,8 @@ fn script_tables<F: Files, R: Read, W: Write, E: Write>(
     output: &mut W,
     errors: &mut E,
 ) -> Result<Tables, u8>
-    ensures read { IfOk result (λ tables. (made : AcceptedOf) × (text : List ℕ) × IsExecuted made text × (tables.version ≡ made.version)) }
+    ensures read { IfOk result (λ tables. (made : AcceptedOf) × (text : List ℕ) × IsRead (IsFileOf F.opens F.Opened.remaining files.now) (R.remaining input.old) (path_of file.entry) text × IsExecuted made text × (tables.version ≡ made.version)) }
+    ensures rest { OnOk result (HasLeft (rest_after (path_of file.entry)) (R.remaining input.old) (R.remaining input.new)) }
     ensures left { IfOk result (λ tables. (tables.left ≡ DONE) ⊎ (tables.left ≡ REFUSED)) }
     ensures fault { IfErr result (λ status. status ≡ FAULT) }
     ensures unwritten { W.contents output.new ≡ W.contents output.old }
@@ -143,7 +145,7 @@ fn script_tables<F: Files, R: Read, W: Write, E: Write>(
 pub(crate) fn tables_at<
     S: Alter + Drop,
     M: Machine<Connection<S>> + Drop,
-    F: Files,
+    F: ReadFiles,
     N: LocalNet + Wait + Copy + Drop,
     R: Read,
     W: Write,
@@ -156,8 +158,9 @@ pub(crate) fn tables_at<
     output: &mut W,
     errors: &mut E,
 ) -> Result<Tables, u8>
-    ensures read { IfOk result (λ tables. HaveTables S.Store M.opens M.refuses M.closes databases.old.machine databases.new.machine source.now tables.version) }
-    ensures unread { IfErr result (λ status. IsNotRead S.Store M.opens M.refuses M.closes databases.old.machine databases.new.machine source.now) }
+    ensures read { IfOk result (λ tables. HaveTables S.Store M.opens M.refuses M.closes (sources_of F.opens F.Opened.remaining databases.old.files.now N.reaches N.Stream.remaining databases.old.rt (R.remaining input.old)) databases.old.machine databases.new.machine source.now tables.version) }
+    ensures rest { OnOk result (HasLeft (rest_by source.now) (R.remaining input.old) (R.remaining input.new)) }
+    ensures unread { IfErr result (λ status. IsNotRead S.Store M.opens M.refuses M.closes (sources_of F.opens F.Opened.remaining databases.old.files.now N.reaches N.Stream.remaining databases.old.rt (R.remaining input.old)) databases.old.machine databases.new.machine source.now) }
     ensures left { IfOk result (λ tables. (tables.left ≡ DONE) ⊎ (tables.left ≡ REFUSED)) }
     ensures fault { IfErr result (λ status. status ≡ FAULT) }
     ensures unwritten { W.contents output.new ≡ W.contents output.old }

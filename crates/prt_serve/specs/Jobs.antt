@@ -1,5 +1,5 @@
 -- What serving jobs does, one after another.
-use Rattle.std.specs.Prelude.{◌≡◌, ℕ, List, [], ◌∷◌, Option}
+use Rattle.std.specs.Prelude.{◌≡◌, ◌^◌, ◌-◌, ℕ, List, [], ◌∷◌, Option, length, min}
 use Rattle.std.specs.Iterator.{Drains}
 use Rattle.prt_front.specs.Line.{Line}
 use Rattle.prt_replies.specs.declared.script_end.ScriptEnd.{ScriptEnd}
@@ -29,6 +29,11 @@ module _ {R W F : Type 0} (remaining : R → Option (List ℕ)) (contents : W �
   ServesEach known0 after0 [] known after = (known ≡ known0) × (after ≡ after0)
   ServesEach known0 after0 (job ∷ jobs) known after = (next : Line) × (called : F) × ServesJob known0 after0 job next called × ServesEach next called jobs known after
 
--- jobs came until no more did, and each was served
+-- jobs came until no more did, and each was served; this is their number, as far as 64 bits count them
+abbrev pub ServesCounted : {I R W F : Type 0} → (I → Option (Job R W) → I → Type 0) → (R → Option (List ℕ)) → (W → Option (List ℕ)) → (F → Served R W → F → Type 0) → I → Line → F → Line → ℕ → Type 0
+ServesCounted {I} {R} {W} {F} steps remaining contents takes jobs known0 after0 known number =
+    (served : List (Job R W)) × Drains steps jobs served × (number ≡ min (length served) (2 ^ 64 - 1)) × ((after : F) × ServesEach remaining contents takes known0 after0 served known after)
+
+-- the same, whatever their number is
 abbrev pub ServesAll : {I R W F : Type 0} → (I → Option (Job R W) → I → Type 0) → (R → Option (List ℕ)) → (W → Option (List ℕ)) → (F → Served R W → F → Type 0) → I → Line → F → Line → Type 0
 ServesAll {I} {R} {W} {F} steps remaining contents takes jobs known0 after0 known = (served : List (Job R W)) × Drains steps jobs served × ((after : F) × ServesEach remaining contents takes known0 after0 served known after)

@@ -7,6 +7,7 @@ pub mod Opening
 pub mod Resumed
 pub mod Together
 pub mod Jobs
+pub mod Kept
 pub mod Feed
 pub mod Idle
 pub mod Accepting

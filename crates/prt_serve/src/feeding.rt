@@ -1,9 +1,10 @@
 //! The loop that accepts connections of a feed, and the threads that feed them.
+ghost use Rattle.std.specs.Prelude.{◌≡◌, ◌≢◌, None, vec_len};
 
 use crate::accepting::{Accepted, accept_one};
 use crate::feed::serve_feed;
 use crate::gate::Gate;
-use crate::listen::{Accepting, Entrance, Limits, ServeEnd, serve_all};
+use crate::listen::{Accepting, Entrance, Limits, ServeEnd, Worked, serve_all};
 use crate::places::Places;
 use crossbeam_channel::{Receiver, Sender, bounded};
 use prt_service::{Naming, Service};
@@ -197,17 +198,22 @@ pub fn serve_and_feed<
     entrances: &[Entrance<L>],
     limits: Limits,
     feeds: &[L],
-) -> ServeEnd {
+) -> Worked<J>
+    ensures { result.end.accepting ≢ Accepting.Failed → result.end.refused ≡ None → vec_len result.shifts ≡ limits.workers }
+{
     let is_ended = AtomicBool::new(false);
-    let (feeding, end) = thread::join(
+    let (feeding, Worked { end, shifts }) = thread::join(
         rt,
         || feed_all(rt, alloc, service, gate, feeds, &is_ended),
         || {
-            let end = serve_all(rt, alloc, service, gate, entrances, limits);
+            let worked = serve_all(rt, alloc, service, gate, entrances, limits);
             is_ended.store(true, Ordering::SeqCst);
             service.end_following(rt);
-            end
+            worked
         },
     );
-    ServeEnd { feeding, ..end }
+    Worked {
+        end: ServeEnd { feeding, ..end },
+        shifts,
+    }
 }

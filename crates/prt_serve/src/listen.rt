@@ -1,12 +1,14 @@
 //! The loop that accepts connections, and the threads that serve them.
-ghost use Rattle.std.specs.Prelude.{◌≡◌};
+ghost use Rattle.std.specs.Prelude.{◌≡◌, ◌≢◌, ◌+◌, IfOk, None, true, vec_len};
 ghost use Rattle.prt_serve.specs.Accepting.{worse};
+ghost use denote.Param.Send.{IsSend, IsSync};
 
 use crate::accepting::{Accepted, accept_one};
 use crate::connection::{Lines, Replies};
 use crate::gate::Gate;
 use crate::idle::close;
 use crate::room::{Arrival, Connected, attend};
+use crate::shift::Shift;
 use crate::turnstile::Turnstile;
 use crate::worker::{Kind, Served, work};
 use crossbeam_channel::{Receiver, Sender, bounded};
@@ -17,7 +19,7 @@ use std::alloc::{AllocError, Global};
 use std::io::{Read, Write};
 use std::net::{OpenListener, OpenStream};
 use std::sync::{Mutex, Wait};
-use std::thread::{self, Threads};
+use std::thread::{self, JoinHandle, Threads};
 use std::time::{Clock, Duration};
 
 /// How many connections may wait for a worker, or to be let into the waiting room.
@@ -76,6 +78,14 @@ pub struct ServeEnd {
     pub feeding: Accepting,
     /// Why a worker got no looker, if one got none.
     pub refused: Option<Refusal>,
+}
+
+/// How serving ended, and what came of the workers.
+#[derive(Drop)]
+pub struct Worked<J: Naming> {
+    pub end: ServeEnd,
+    /// The shift of each worker that got a looker.
+    pub shifts: Vec<Shift<J>>,
 }
 
 /// Accepts connections until the turnstile is shut, or this ends by itself.
@@ -219,8 +229,6 @@ struct Worker<'a, H: Wait + Clock, S: Alter + Drop, J: Naming, G: Gate, T: Read 
     gate: &'a G,
     jobs: Receiver<Connected<T>>,
     idle: Option<Duration>,
-    /// Where it notes why it got no looker.
-    refused: &'a Mutex<Option<Refusal>>,
 }
 
 impl<'a, H: Wait + Clock, S: Alter + Drop, J: Naming, G: Gate, T: Read + Write + Drop> Worker<
@@ -231,14 +239,12 @@ impl<'a, H: Wait + Clock, S: Alter + Drop, J: Naming, G: Gate, T: Read + Write +
     G,
     T,
 > {
-    /// Serves jobs until the channel is closed.
-    fn serve(self) {
+    /// Serves jobs until the channel is closed, as `work` does.
+    fn serve(self) -> Result<Shift<J>, Refusal> {
         let jobs = self.jobs.iter(self.rt);
         let idle = self.idle;
         let after = |served: Served<Lines<T>, Replies<T>>| close(served, idle);
-        if let Err(reason) = work(self.rt, self.alloc, self.service, jobs, self.gate, after) {
-            *self.refused.lock(self.rt) = Some(reason);
-        }
+        work(self.rt, self.alloc, self.service, jobs, self.gate, after)
     }
 }
 
@@ -289,6 +295,71 @@ impl<T: Read + Write + OpenStream + Drop> Channels<T> {
     }
 }
 
+/// The threads of workers, and memory for their shifts.
+#[derive(Drop)]
+struct Crew<J: Naming> {
+    threads: Vec<JoinHandle<Result<Shift<J>, Refusal>>>,
+    shifts: Vec<Shift<J>>,
+}
+
+impl<J: Naming> Crew<J> {
+    /// Gets memory for so many workers.
+    fn new(alloc: Global, workers: usize) -> Result<Crew<J>, AllocError>
+        ensures { IfOk result (λ crew. (vec_len crew.threads ≡ 0) × (vec_len crew.shifts ≡ 0)) }
+    {
+        Ok(Crew {
+            threads: Vec::with_capacity(alloc, workers)?,
+            shifts: Vec::with_capacity(alloc, workers)?,
+        })
+    }
+
+    /// Adds the thread of a worker, and returns whether it did. It does within the memory that it got.
+    fn add(&mut self, thread: JoinHandle<Result<Shift<J>, Refusal>>) -> bool
+        ensures added { result ≡ true → vec_len self.new.threads ≡ vec_len self.old.threads + 1 }
+        ensures shifts { vec_len self.new.shifts ≡ vec_len self.old.shifts }
+    {
+        self.threads.push(thread).is_ok()
+    }
+
+    /// Waits until its threads have ended, and returns their shifts, beside how accepting ended.
+    fn join<H: Threads>(self, rt: &H, accepting: Accepting) -> Worked<J>
+        requires { vec_len self.shifts ≡ 0 }
+        ensures accepting { result.end.accepting ≡ accepting }
+        ensures all { result.end.refused ≡ None → vec_len result.shifts ≡ vec_len self.threads }
+    {
+        let Crew {
+            threads,
+            mut shifts,
+        } = self;
+        let mut refused = None;
+        for thread in threads {
+            match thread.join(rt) {
+                Ok(shift) => {
+                    if shifts.push(shift).is_err() {
+                        refused = Some(Refusal::NoMemory);
+                    }
+                }
+                Err(reason) => refused = Some(reason),
+            }
+        }
+        Worked {
+            end: ServeEnd {
+                accepting,
+                feeding: Accepting::Ended,
+                refused,
+            },
+            shifts,
+        }
+    }
+}
+
+/// The workers that were started, and how accepting ended among them.
+#[derive(Drop)]
+struct Manned<J: Naming> {
+    crew: Crew<J>,
+    accepting: Accepting,
+}
+
 /// Accepts connections, while each of the threads works. Returns once all of them have ended.
 fn accept_among_workers<
     H: Threads + Wait + Clock + Sync,
@@ -305,48 +376,80 @@ fn accept_among_workers<
     entrances: &[Entrance<L>],
     limits: Limits,
     channels: Channels<T>,
-    refused: &Mutex<Option<Refusal>>,
-) -> Accepting {
+    mut crew: Crew<J>,
+) -> Manned<J>
+    requires { (vec_len crew.threads ≡ 0) × (vec_len crew.shifts ≡ 0) }
+    ensures shifts { vec_len result.crew.shifts ≡ 0 }
+    ensures all { result.accepting ≢ Accepting.Failed → vec_len result.crew.threads ≡ limits.workers }
+{
     let Channels {
         to_room,
         arrivals,
         to_workers,
         jobs: from_room,
     } = channels;
-    let idle = limits.idle;
-    thread::scope(thread::scope_env(), rt, |scope| {
-        for _ in 0..limits.workers {
-            let Ok(jobs) = from_room.clone() else {
-                return Accepting::Failed;
-            };
-            let worker = Worker {
+    let Limits {
+        workers,
+        sessions,
+        idle,
+    } = limits;
+    thread::scope(
+        thread::scope_env(),
+        rt,
+        |scope| -> Manned<J>
+            requires crew { (vec_len crew.threads ≡ 0) × (vec_len crew.shifts ≡ 0) }
+            requires send { IsSync H.row × IsSend S.row × IsSend J.row × IsSync G.row × IsSend T.row × IsSync L.row }
+            ensures { (vec_len result.crew.shifts ≡ 0) × (result.accepting ≢ Accepting.Failed → vec_len result.crew.threads ≡ workers) }
+        {
+            let failed = Accepting::Failed;
+            for _ in 0..workers {
+                let Ok(jobs) = from_room.clone() else {
+                    return Manned {
+                        crew,
+                        accepting: failed,
+                    };
+                };
+                let worker = Worker {
+                    rt,
+                    alloc,
+                    service,
+                    gate,
+                    jobs,
+                    idle,
+                };
+                let Ok(thread) = scope.spawn(move || worker.serve()) else {
+                    return Manned {
+                        crew,
+                        accepting: failed,
+                    };
+                };
+                if !crew.add(thread) {
+                    return Manned {
+                        crew,
+                        accepting: failed,
+                    };
+                }
+            }
+            // Lets a send fail once no worker is left.
+            drop(from_room);
+            let attendant = Attendant {
                 rt,
                 alloc,
-                service,
                 gate,
-                jobs,
+                arrivals,
+                jobs: to_workers,
                 idle,
-                refused,
             };
-            if scope.spawn(move || worker.serve()).is_err() {
-                return Accepting::Failed;
+            if scope.spawn(move || attendant.serve()).is_err() {
+                return Manned {
+                    crew,
+                    accepting: failed,
+                };
             }
-        }
-        // Lets a send fail once no worker is left.
-        drop(from_room);
-        let attendant = Attendant {
-            rt,
-            alloc,
-            gate,
-            arrivals,
-            jobs: to_workers,
-            idle,
-        };
-        if scope.spawn(move || attendant.serve()).is_err() {
-            return Accepting::Failed;
-        }
-        accept_all(rt, gate, entrances, to_room, limits.sessions)
-    })
+            let accepting = accept_all(rt, gate, entrances, to_room, sessions);
+            Manned { crew, accepting }
+        },
+    )
 }
 
 /// Serves the connections of listeners by so many workers, each a session of its own, until the last that may come has
@@ -358,7 +461,8 @@ fn accept_among_workers<
 /// reply; it keeps its number and counts.
 ///
 /// Accepting stops for good if a listener fails for good, if a thread or a channel can't be made, or if no worker is
-/// left. A worker that gets no looker ends, and the others serve on.
+/// left. A worker that gets no looker ends, and the others serve on. The memory for the workers' shifts is requested before
+/// they start: if there is none, accepting fails.
 pub fn serve_all<
     H: Threads + Wait + Clock + Sync,
     S: Alter + Drop + Send,
@@ -373,21 +477,21 @@ pub fn serve_all<
     gate: &G,
     entrances: &[Entrance<L>],
     limits: Limits,
-) -> ServeEnd {
-    let Ok(channels) = Channels::new(alloc) else {
-        return ServeEnd {
-            accepting: Accepting::Failed,
-            feeding: Accepting::Ended,
-            refused: None,
+) -> Worked<J>
+    ensures { result.end.accepting ≢ Accepting.Failed → result.end.refused ≡ None → vec_len result.shifts ≡ limits.workers }
+{
+    let (Ok(channels), Ok(crew)) = (Channels::new(alloc), Crew::new(alloc, limits.workers)) else {
+        return Worked {
+            end: ServeEnd {
+                accepting: Accepting::Failed,
+                feeding: Accepting::Ended,
+                refused: None,
+            },
+            shifts: Vec::new(alloc),
         };
     };
-    let refused = Mutex::new(None);
-    let accepting = accept_among_workers(
-        rt, alloc, service, gate, entrances, limits, channels, &refused,
+    let Manned { crew, accepting } = accept_among_workers(
+        rt, alloc, service, gate, entrances, limits, channels, crew,
     );
-    ServeEnd {
-        accepting,
-        feeding: Accepting::Ended,
-        refused: refused.into_inner(),
-    }
+    crew.join(rt, accepting)
 }

@@ -1,9 +1,10 @@
 //! The loop that accepts clients that ask for the status, and answers them.
+ghost use Rattle.std.specs.Prelude.{◌≡◌, ◌≢◌, None, vec_len};
 
 use crate::accepting::{Accepted, accept_one};
 use crate::feeding::serve_and_feed;
 use crate::gate::Gate;
-use crate::listen::{Accepting, Entrance, Limits, ServeEnd, serve_all};
+use crate::listen::{Accepting, Entrance, Limits, ServeEnd, Worked, serve_all};
 use prt_service::{Naming, Service};
 use sqlite::Alter;
 use std::alloc::Global;
@@ -86,7 +87,9 @@ fn serve_or_feed<
     gate: &G,
     entrances: &Entrances<L>,
     limits: Limits,
-) -> ServeEnd {
+) -> Worked<J>
+    ensures { result.end.accepting ≢ Accepting.Failed → result.end.refused ≡ None → vec_len result.shifts ≡ limits.workers }
+{
     let (sessions, feeds) = (entrances.sessions.as_slice(), entrances.feeds.as_slice());
     if feeds.is_empty() {
         serve_all(rt, alloc, service, gate, sessions, limits)
@@ -114,22 +117,27 @@ pub fn serve_entrances<
     gate: &G,
     entrances: &Entrances<L>,
     limits: Limits,
-) -> ServeEnd {
+) -> Worked<J>
+    ensures { result.end.accepting ≢ Accepting.Failed → result.end.refused ≡ None → vec_len result.shifts ≡ limits.workers }
+{
     let Some(listener) = &entrances.status else {
         return serve_or_feed(rt, alloc, service, gate, entrances, limits);
     };
     let is_ended = AtomicBool::new(false);
-    let (reporting, end) = thread::join(
+    let (reporting, Worked { end, shifts }) = thread::join(
         rt,
         || report_all(rt, alloc, gate, listener, &is_ended),
         || {
-            let end = serve_or_feed(rt, alloc, service, gate, entrances, limits);
+            let worked = serve_or_feed(rt, alloc, service, gate, entrances, limits);
             is_ended.store(true, Ordering::SeqCst);
-            end
+            worked
         },
     );
-    ServeEnd {
-        feeding: end.feeding.worse(reporting),
-        ..end
+    Worked {
+        end: ServeEnd {
+            feeding: end.feeding.worse(reporting),
+            ..end
+        },
+        shifts,
     }
 }

@@ -1,15 +1,16 @@
 //! Workers: each serves one connection after another, a session or an atomic file.
-ghost use Rattle.std.specs.Prelude.{◌≡◌, None, IfErr, IfOk};
-ghost use Rattle.std.specs.Iterator.{IsFinite};
+ghost use Rattle.std.specs.Prelude.{◌≡◌, ◌^◌, ◌-◌, List, None, IfErr, IfOk, length, min};
+ghost use Rattle.std.specs.Iterator.{Drains, IsFinite};
 ghost use Rattle.prt_front.specs.Line.{Begins, Line};
-ghost use Rattle.prt_serve.specs.Jobs.{ServesAll};
+ghost use Rattle.prt_serve.specs.Jobs.{ServesAll, ServesCounted};
 ghost use Rattle.prt_serve.specs.Serving.{Serves};
 ghost use Rattle.prt_serve.specs.Together.{ServesTogether};
 
 use crate::atomic::{FileServed, serve_atomic};
 use crate::gate::Gate;
 use crate::session::serve_session;
-use prt_service::{Departure, Looker, Naming, Service};
+use crate::shift::Shift;
+use prt_service::{Looker, Naming, Service};
 use prt_session::{Refusal, ScriptEnd};
 use sqlite::Alter;
 use std::alloc::Global;
@@ -138,7 +139,7 @@ fn serve_together<
 }
 
 /// Serves jobs until no more come, each with all that the looker learned from those before. A fault ends its own session
-/// alone. Passes each job to `after` once its session has ended.
+/// alone. Passes each job to `after` once its session has ended. Returns how many it served, as far as 64 bits count them.
 fn serve_jobs<
     H: Wait + Clock,
     S: Alter + Drop,
@@ -156,16 +157,18 @@ fn serve_jobs<
     jobs: I,
     gate: &G,
     mut after: F,
-)
+) -> u64
     requires of { (looker.old.known.book ≡ J.book) × (looker.old.known.base ≡ J.base) }
     requires can { I.can_next jobs }
     requires ends { IsFinite (I.remaining jobs) }
     requires callable { F.IsAlwaysCallable after }
     ensures of { (looker.new.known.book ≡ J.book) × (looker.new.known.base ≡ J.base) }
     ensures grows { Begins looker.old.known looker.new.known }
-    ensures served { ServesAll I.next_gives R.remaining W.contents (λ to left later. F.step to left tt later) jobs looker.old.known after looker.new.known }
+    ensures served { ServesCounted I.next_gives R.remaining W.contents (λ to left later. F.step to left tt later) jobs looker.old.known after looker.new.known result }
 {
+    let mut served: u64 = 0;
     for mut job in jobs {
+        served = served.saturating_add(1);
         match job.kind {
             Kind::InTurn => {
                 let end = serve_job(rt, alloc, service, looker, &mut job, gate);
@@ -174,9 +177,10 @@ fn serve_jobs<
             Kind::Together => after(serve_together(rt, alloc, service, looker, job, gate)),
         }
     }
+    served
 }
 
-/// Serves jobs until no more come, with a looker that then leaves. The departure has the list that it knew at the end.
+/// Serves jobs until no more come, with a looker that then leaves.
 fn work_with<
     H: Wait + Clock,
     S: Alter + Drop,
@@ -194,19 +198,19 @@ fn work_with<
     jobs: I,
     gate: &G,
     after: F,
-) -> Departure
+) -> Shift<J>
     requires of { (looker.known.book ≡ J.book) × (looker.known.base ≡ J.base) }
     requires can { I.can_next jobs }
     requires ends { IsFinite (I.remaining jobs) }
     requires callable { F.IsAlwaysCallable after }
-    ensures served { ServesAll I.next_gives R.remaining W.contents (λ to left later. F.step to left tt later) jobs looker.known after result }
+    ensures served { ServesCounted I.next_gives R.remaining W.contents (λ to left later. F.step to left tt later) jobs looker.known after result.known result.served }
 {
-    serve_jobs(rt, alloc, service, &mut looker, jobs, gate, after);
-    looker.leave(rt, service)
+    let served = serve_jobs(rt, alloc, service, &mut looker, jobs, gate, after);
+    Shift::new(looker.leave(rt, service), served)
 }
 
-/// Serves jobs until no more come, with a looker of its own, which then leaves. The departure has the list that it knew at
-/// the end. Passes each job to `after` once its session has ended.
+/// Serves jobs until no more come, with a looker of its own, which then leaves. Passes each job to `after` once its session
+/// has ended. The shift has the list that the looker knew at the end, and the number of the jobs.
 ///
 /// # Errors
 ///
@@ -227,11 +231,12 @@ pub fn work<
     jobs: I,
     gate: &G,
     after: F,
-) -> Result<Departure, Refusal>
+) -> Result<Shift<J>, Refusal>
     requires can { I.can_next jobs }
     requires ends { IsFinite (I.remaining jobs) }
     requires callable { F.IsAlwaysCallable after }
-    ensures served { IfOk result (λ left. (known : Line) × (known.book ≡ J.book) × (known.base ≡ J.base) × ServesAll I.next_gives R.remaining W.contents (λ to left later. F.step to left tt later) jobs known after left) }
+    ensures served { IfOk result (λ left. (known : Line) × (known.book ≡ J.book) × (known.base ≡ J.base) × ServesAll I.next_gives R.remaining W.contents (λ to left later. F.step to left tt later) jobs known after left.known) }
+    ensures counted { IfOk result (λ left. (served : List (Job R W)) × Drains I.next_gives jobs served × (left.served ≡ min (length served) (2 ^ 64 - 1))) }
     ensures reason { IfErr result (λ reason. reason ≡ Refusal.Full) }
 {
     let looker = match service.looker(rt) {

@@ -3,6 +3,7 @@ use Rattle.std.specs.Prelude.{◌≡◌, Bool}
 use Rattle.logbook.specs.Pages.{Book}
 use Rattle.sqlite.specs.Held.{Held}
 use Rattle.sqlite.specs.Store.{Ghosts}
+use Rattle.prt_front.specs.Line.{Line}
 use Rattle.prt_publisher.specs.Standing.{IsQuiet, Standing, Stands}
 use Rattle.prt_version.specs.State.{State}
 
@@ -10,10 +11,11 @@ use Rattle.prt_version.specs.State.{State}
 abbrev pub IsNamed : {T : Type 0} → Book → State → Bool → Standing T → Type 0
 IsNamed book base ours_first publisher = (publisher.line.book ≡ book) × (publisher.line.base ≡ base) × (publisher.ours_first ≡ ours_first)
 
--- The tables are those of a named publisher with no command under way. Of a file that is known they hold what it published or, once it is closed, that or what was stored and not published. Which commands it published is open.
-pub record IsReleased {S : Type 0} (g : Ghosts S) (book : Book) (base : State) (ours_first : Bool) (tables : Held S) : Type 0 where
+-- The tables are those of a named publisher with no command under way, which had published this list. Of a file that is known they hold the state after the list or, once the publisher is closed, that or the state after what was stored and not published.
+pub record IsReleased {S : Type 0} (g : Ghosts S) (book : Book) (base : State) (ours_first : Bool) (published : Line) (tables : Held S) : Type 0 where
   pub last : Standing (Held S)
   pub its : last.tables ≡ tables
+  pub line : last.line ≡ published
   pub quiet : IsQuiet last.phase
   pub named : IsNamed book base ours_first last
   pub stands : Stands g last

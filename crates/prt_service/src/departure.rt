@@ -1,7 +1,9 @@
 //! That a looker left.
-ghost use Rattle.std.specs.Prelude.{◌≡◌};
+ghost use Rattle.std.specs.Prelude.{◌≡◌, MatchBool};
+ghost use Rattle.prt_front.specs.Line.{Begins};
 
 use crate::spare::Returned;
+use prt_front::Known;
 use std::marker::Model;
 
 /// Says that a looker returned its version, its reader and its place. [`Looker::leave`] alone makes one. Contracts see
@@ -27,5 +29,14 @@ impl Departure {
         ensures { result ≡ returned }
     {
         Departure { returned }
+    }
+
+    /// Checks whether the list that the looker knew is a prefix of the other. Otherwise the other is a prefix of it: both
+    /// are of one front.
+    pub fn is_before(&self, other: &Known) -> bool
+        requires { self.now.book ≡ other.now.book }
+        ensures { MatchBool result (Begins self.now other.now) (Begins other.now self.now) }
+    {
+        self.returned.is_before(other)
     }
 }

@@ -17,14 +17,14 @@ use crate::change::Change;
 use crate::followers::{FollowerNumber, Followers};
 use crate::not_made::NotMade;
 use crate::tally::{Commit, Tally};
-use crate::{Naming, Unfollowed};
+use crate::{Naming, Released, Unfollowed};
 use crossbeam_channel::Sender;
 use prt_command::{Command, Refusal};
 use prt_front::{Known, Told};
 use prt_grace::Domain;
 use prt_publisher::{Phase, Publisher, Receipt};
 use prt_version::Version;
-use sqlite::{Alter, Connection, Error};
+use sqlite::{Alter, Error};
 use std::alloc::Global;
 use std::marker::{Model, PhantomData};
 use std::slice;
@@ -257,24 +257,35 @@ impl<S: Alter + Drop, J: Naming> QuietPublisher<S, J> {
         self.publisher.failure()
     }
 
-    /// Returns the connection, with its tables as they are. It waits for nobody, as `Publisher::release`.
-    pub(crate) fn release(self) -> Connection<S>
-        ensures tables { result ≡ self.tables }
+    /// Returns the connection, with its tables as they are, and the published list. It waits for nobody, as
+    /// `Publisher::release`.
+    pub(crate) fn release(self) -> Released<S>
+        ensures tables { result.conn ≡ self.tables }
+        ensures published { result.published ≡ self.line }
         ensures quiet { IsQuiet self.phase }
         ensures of { IsNamed J.book J.base J.ours_first self }
         ensures stands { Stands S.Store self }
     {
-        self.publisher.release()
+        let published = self.publisher.known();
+        Released {
+            conn: self.publisher.release(),
+            published,
+        }
     }
 
-    /// Ends its front, as `Publisher::end`, and returns the connection, with its tables as they are.
-    pub(crate) fn end<W: Wait>(self, rt: &W) -> Connection<S>
-        ensures tables { result ≡ self.tables }
+    /// Ends its front, as `Publisher::end`, and returns the same.
+    pub(crate) fn end<W: Wait>(self, rt: &W) -> Released<S>
+        ensures tables { result.conn ≡ self.tables }
+        ensures published { result.published ≡ self.line }
         ensures quiet { IsQuiet self.phase }
         ensures of { IsNamed J.book J.base J.ours_first self }
         ensures stands { Stands S.Store self }
     {
-        self.publisher.end(rt)
+        let published = self.publisher.known();
+        Released {
+            conn: self.publisher.end(rt),
+            published,
+        }
     }
 }
 

@@ -17,14 +17,14 @@ use crate::quiet::QuietPublisher;
 use crate::spare::{Returned, SpareReaders};
 use crate::tally::{Commit, Stopwatch};
 use crate::waiting::Waiting;
-use crate::{Follower, Looker, Naming, Unfollowed};
+use crate::{Follower, Looker, Naming, Released, Unfollowed};
 use crossbeam_channel::bounded;
 use prt_command::{Command, Refusal};
 use prt_front::{FrontReader, Told};
 use prt_grace::{Domain, Retention};
 use prt_publisher::{Publisher, Receipt, Seats};
 use prt_version::Version;
-use sqlite::{Alter, Connection, Error};
+use sqlite::{Alter, Error};
 use std::alloc::Global;
 use std::sync::{Arc, Mutex, Wait};
 use std::thread;
@@ -349,19 +349,19 @@ impl<S: Alter + Drop, J: Naming> Service<S, J> {
         self.domain.retention(rt)
     }
 
-    /// Ends the service, and returns the connection, with its tables as the lock keeps them. Of a file that is known, a
-    /// ready publisher's tables hold the published state, and those of a closed one that or the state after one
-    /// submission more, the same one whatever a crash leaves; a crash leaves no other. It waits for nobody: the front's
-    /// readers go on, and its memory is never freed.
-    pub fn release(self) -> Connection<S>
-        ensures { IsReleased S.Store J.book J.base J.ours_first result }
+    /// Ends the service, and returns the connection, with its tables as the lock keeps them, and the published list. Of a
+    /// file that is known, a ready publisher's tables hold the state after that list, and those of a closed one that or the
+    /// state after one submission more, the same one whatever a crash leaves; a crash leaves no other. It waits for nobody:
+    /// the front's readers go on, and its memory is never freed.
+    pub fn release(self) -> Released<S>
+        ensures { IsReleased S.Store J.book J.base J.ours_first result.published result.conn }
     {
         self.publisher.into_inner().release()
     }
 
-    /// Ends the service and its front, which waits for readers that are inside, and returns the connection, as `release`.
-    pub fn end<W: Wait>(self, rt: &W) -> Connection<S>
-        ensures { IsReleased S.Store J.book J.base J.ours_first result }
+    /// Ends the service and its front, which waits for readers that are inside, and returns the same as `release`.
+    pub fn end<W: Wait>(self, rt: &W) -> Released<S>
+        ensures { IsReleased S.Store J.book J.base J.ours_first result.published result.conn }
     {
         self.publisher.into_inner().end(rt)
     }

@@ -1,5 +1,6 @@
 //! Readers that no looker has.
-ghost use Rattle.std.specs.Prelude.{◌≡◌, IfSome};
+ghost use Rattle.std.specs.Prelude.{◌≡◌, IfSome, MatchBool};
+ghost use Rattle.prt_front.specs.Line.{Begins};
 ghost use Rattle.prt_version.specs.Accepted.{IsAccepted};
 
 use crate::Naming;
@@ -20,6 +21,16 @@ impl Model for Returned {
     ghost Value = { Line };
 
     ghost view = { λ returned. returned.known };
+}
+
+impl Returned {
+    /// Checks whether its list is a prefix of the other. Otherwise the other is a prefix of it.
+    pub(crate) fn is_before(&self, other: &Known) -> bool
+        requires { self.now.book ≡ other.now.book }
+        ensures { MatchBool result (Begins self.now other.now) (Begins other.now self.now) }
+    {
+        self.known.is_before(other)
+    }
 }
 
 /// Readers of the named front that no looker has.

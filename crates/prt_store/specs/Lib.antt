@@ -10,3 +10,4 @@ pub mod Openings
 pub mod Exits
 pub mod Stops
 pub mod Failures
+pub mod FailOnce

@@ -3,6 +3,7 @@
 
 mod adopt;
 mod commit;
+pub mod faults;
 mod laws;
 mod load;
 mod merging;
@@ -12,4 +13,7 @@ mod store;
 
 pub use laws::{openings_go_on, stops_leave_a_state};
 pub use opening::migrate;
+pub use prt_refusals::Refusal;
+pub use prt_version::{Change, Version};
+pub use sqlite::{Alter, Connection, Error, File, FileStore};
 pub use store::{Stamp, Store};

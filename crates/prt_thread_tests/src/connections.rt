@@ -173,7 +173,7 @@ fn serve_without_looker<H: Threads + Wait + Clock + Sync, S: Alter + Drop + Send
             return Err(Refusal::NoMemory);
         }
     }
-    let end = serve_all(rt, alloc, &service, &OpenGate, entrances, limited_to(0));
+    let end = serve_all(rt, alloc, &service, &OpenGate, entrances, limited_to(0)).end;
     match end.accepting {
         Accepting::NoWorkers => Ok(end.refused),
         Accepting::Ended | Accepting::Failed => Ok(None),

@@ -1,4 +1,4 @@
-//! Followers beside as many lookers as there may be.
+//! Followers beside as many lookers as there may be, and one that falls behind.
 ghost use Rattle.prt_publisher.specs.Standing.{IsQuiet};
 ghost use Rattle.prt_service.specs.Named.{IsNamed};
 
@@ -115,5 +115,45 @@ fn followers_take_no_looker(rt: HostRuntime) -> Result<(), Fail> {
                 late: Heard::Flush(2),
             }
     );
+    Ok(())
+}
+
+/// Runs a service of the named front, with a follower that hears nothing. Returns how many followers there are once so many
+/// commands wait for it, and after one more.
+fn fall_behind<J: Naming, S: Alter + Drop, H: Wait + Clock + Copy + Drop>(
+    rt: H,
+    publisher: Publisher<S>,
+    domain: Domain,
+    most: u64,
+) -> Result<(usize, usize), Refusal>
+    requires quiet { IsQuiet publisher.phase }
+    requires of { IsNamed J.book J.base J.ours_first publisher }
+{
+    let service: Service<S, J> = service_over(&rt, publisher, domain)?;
+    let (_follower, _) = service.follow(&rt)?;
+    for _ in 0..most {
+        submit_to_service(&rt, &service)?;
+    }
+    let followers = service.figures(&rt).followers;
+    submit_to_service(&rt, &service)?;
+    Ok((followers, service.figures(&rt).followers))
+}
+
+/// Runs a service over the database of a connection.
+fn fall_behind_over<S: Alter + Drop, H: Wait + Clock + Copy + Drop>(
+    rt: H,
+    alloc: Global,
+    connection: Connection<S>,
+    most: u64,
+) -> Result<(usize, usize), Refusal> {
+    let (publisher, domain) = adopted(alloc, connection)?;
+    fall_behind::<Brand, S, H>(rt, publisher, domain, most)
+}
+
+#[test]
+fn a_follower_that_falls_behind_is_let_go(rt: HostRuntime) -> Result<(), Fail> {
+    let alloc = rt.alloc();
+    let connection = Connection::open_in_memory(alloc)?;
+    assert_eq!(rt; fall_behind_over(rt, alloc, connection, 1000)?, (1, 0));
     Ok(())
 }

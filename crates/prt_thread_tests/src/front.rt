@@ -10,6 +10,7 @@ use prt_version::Version;
 use prt_version::owners::first_owner;
 use sqlite::{Alter, Connection};
 use std::alloc::Global;
+use std::snapshot::Snapshot;
 use std::sync::Wait;
 use std::test::Fail;
 
@@ -59,8 +60,8 @@ fn look_around<S: Alter + Drop, H: Wait>(
         return Ok(None);
     };
     let before = first.fetch()?.number();
-    let commands = Vec::from_slice(alloc, &[command])?;
-    let told = front.publish_all(rt, stamp, &commands, first_owner(alloc, next)?)?;
+    let said = Snapshot::of(&command);
+    let told = front.publish(rt, stamp, said, first_owner(alloc, next)?)?;
     second.learn(&told);
     let found = Found {
         before,

@@ -21,8 +21,8 @@ struct Retained {
     /// Why the next command was refused, and the phase after it.
     refused: Option<Refusal>,
     phase: Phase,
-    /// How many versions wait then: from the oldest that the looker may hold to the noted one.
-    retired: u64,
+    /// How many retired versions the registry keeps then.
+    retired: usize,
     /// The number of the receipt after the looker had announced.
     next: u64,
 }
@@ -79,7 +79,7 @@ fn retain<S: Alter + Drop, H: Wait + Copy + Drop>(
     let online_at = domain.online(&rt, &mut place);
     let (last, refused) = add_until_refused(&rt, alloc, &mut publisher, &domain);
     let phase = publisher.phase();
-    let retired = publisher.noted().saturating_sub(online_at);
+    let retired = domain.retention(&rt).retired;
     if last < online_at {
         return Ok(None);
     }

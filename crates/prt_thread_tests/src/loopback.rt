@@ -42,7 +42,7 @@ fn converse<
         kind: Kind::InTurn,
     };
     let entrances = slice::from_ref(&only);
-    let end = serve_all(rt, alloc, service, &OpenGate, entrances, limits);
+    let end = serve_all(rt, alloc, service, &OpenGate, entrances, limits).end;
     let mut text = Vec::new(alloc);
     client.read_to_end(&mut text)?;
     let is_ended = matches!(end.accepting, Accepting::Ended) && end.refused.is_none();

@@ -3,18 +3,18 @@ ghost use Rattle.prt_publisher.specs.Standing.{IsQuiet};
 ghost use Rattle.prt_service.specs.Named.{IsNamed};
 
 use crate::caller::{adopted, service_over};
+use crossbeam_channel::{Receiver, Sender, bounded};
 use prt_command::Refusal;
 use prt_grace::Domain;
 use prt_publisher::Publisher;
-use prt_serve::{Accepting, Entrance, Gate, Kind, Limits, serve_all};
+use prt_serve::{Gate, Job, Kind, work};
 use prt_service::{Naming, Service};
 use prt_session::Reply;
 use sqlite::{Alter, Connection};
 use std::alloc::Global;
-use std::io::{self, ErrorKind, Read, Write};
+use std::io::{self, Write};
 use std::marker::Brand;
-use std::net::{Ipv4Addr, OpenListener, OpenStream, SocketAddr};
-use std::slice;
+use std::net::{Ipv4Addr, SocketAddr};
 use std::sync::atomic::{AtomicU64, Ordering};
 use std::sync::{Arc, Mutex, Wait};
 use std::test::Fail;
@@ -74,22 +74,14 @@ impl Gate for Meeting {
 /// A text that a worker writes and the test reads.
 type Text = Arc<Mutex<Vec<u8>>, Global>;
 
-/// An end of a connection whose client asks once.
+/// The end of a connection that replies go to.
 #[derive(Drop)]
-struct Asking<H: Wait + Copy + Drop> {
+struct Client<H: Wait + Copy + Drop> {
     rt: H,
-    /// What is still to be read.
-    question: &'static [u8],
     text: Text,
 }
 
-impl<H: Wait + Copy + Drop> Read for Asking<H> {
-    fn read(&mut self, bytes: &mut [u8]) -> io::Result<usize> {
-        self.question.read(bytes)
-    }
-}
-
-impl<H: Wait + Copy + Drop> Write for Asking<H> {
+impl<H: Wait + Copy + Drop> Write for Client<H> {
     fn write(&mut self, bytes: &[u8]) -> io::Result<usize> {
         self.text.lock(&self.rt).extend_from_slice(bytes)?;
         Ok(bytes.len())
@@ -100,44 +92,41 @@ impl<H: Wait + Copy + Drop> Write for Asking<H> {
     }
 }
 
-impl<H: Wait + Copy + Drop> OpenStream for Asking<H> {
-    fn try_clone(&self) -> io::Result<Asking<H>> {
-        Ok(Asking {
-            rt: self.rt,
-            question: b"".as_slice(),
-            text: Arc::try_clone(&self.text)?,
-        })
-    }
-}
-
-/// A listener that has two connections.
-#[derive(Drop)]
-struct Two<H: Wait + Copy + Drop> {
+/// Hands over a session whose client asks once. Returns whether somebody may take it.
+fn hand_over<H: Wait + Copy + Drop>(
     rt: H,
-    accepted: AtomicU64,
-    first: Text,
-    second: Text,
+    jobs: &Sender<Job<&'static [u8], Client<H>>>,
+    session: u64,
+    text: &Text,
+) -> Result<bool, Fail> {
+    let job = Job {
+        session,
+        client: SocketAddr::from((Ipv4Addr::LOCALHOST, 0)),
+        kind: Kind::InTurn,
+        reader: b"route get 10.0.0.1\n".as_slice(),
+        writer: Client {
+            rt,
+            text: Arc::try_clone(text)?,
+        },
+    };
+    Ok(jobs.send(&rt, job).is_ok())
 }
 
-impl<H: Wait + Copy + Drop> OpenListener for Two<H> {
-    type Stream = Asking<H>;
-
-    fn accept(&self) -> io::Result<(Asking<H>, SocketAddr)> {
-        let text = match self.accepted.fetch_add(1, Ordering::SeqCst) {
-            0 => Arc::try_clone(&self.first)?,
-            1 => Arc::try_clone(&self.second)?,
-            _ => return Err(io::Error::from(ErrorKind::Other)),
-        };
-        let stream = Asking {
-            rt: self.rt,
-            question: b"route get 10.0.0.1\n".as_slice(),
-            text,
-        };
-        Ok((stream, SocketAddr::from((Ipv4Addr::LOCALHOST, 0))))
+/// Serves jobs until the channel is closed. Returns why no looker was had, if none was.
+fn serve_jobs<H: Wait + Clock + Copy + Drop, S: Alter + Drop, J: Naming>(
+    rt: &H,
+    alloc: Global,
+    service: &Service<S, J>,
+    jobs: Receiver<Job<&'static [u8], Client<H>>>,
+    gate: &Meeting,
+) -> Option<Refusal> {
+    match work(rt, alloc, service, jobs.iter(rt), gate, |_served| {}) {
+        Ok(_) => None,
+        Err(reason) => Some(reason),
     }
 }
 
-/// Serves both over a service of the publisher, by two workers. Returns whether accepting ended with the second.
+/// Serves the jobs over a service of the publisher, by two workers. Returns whether both had a looker.
 fn meet<
     H: Threads + Wait + Clock + Copy + Drop + Send + Sync + 'static,
     S: Alter + Drop + Send,
@@ -148,7 +137,7 @@ fn meet<
     publisher: Publisher<S>,
     domain: Domain,
     gate: &Meeting,
-    entrances: &[Entrance<Two<H>>],
+    jobs: Receiver<Job<&'static [u8], Client<H>>>,
 ) -> bool
     requires quiet { IsQuiet publisher.phase }
     requires of { IsNamed J.book J.base J.ours_first publisher }
@@ -157,13 +146,16 @@ fn meet<
     let Ok(service) = made else {
         return false;
     };
-    let limits = Limits {
-        workers: 2,
-        sessions: 2,
-        idle: None,
+    let Ok(others) = jobs.clone() else {
+        return false;
     };
-    let end = serve_all(rt, alloc, &service, gate, entrances, limits);
-    matches!(end.accepting, Accepting::Ended) && end.refused.is_none()
+    let shared = &service;
+    let (first, second) = thread::join(
+        rt,
+        move || serve_jobs(rt, alloc, shared, jobs, gate),
+        move || serve_jobs(rt, alloc, shared, others, gate),
+    );
+    first.is_none() && second.is_none()
 }
 
 #[test]
@@ -172,26 +164,16 @@ fn overlapping_sessions(rt: HostRuntime) -> Result<(), Fail> {
     let connection = Connection::open_in_memory(alloc)?;
     let (publisher, domain) = adopted(alloc, connection)?;
     let gate = Meeting::new();
-    let only = Entrance {
-        listener: Two {
-            rt,
-            accepted: AtomicU64::new(0),
-            first: Arc::new(alloc, Mutex::new(Vec::new(alloc)))?,
-            second: Arc::new(alloc, Mutex::new(Vec::new(alloc)))?,
-        },
-        kind: Kind::InTurn,
-    };
-    let entrances = slice::from_ref(&only);
-    assert!(rt; meet::<_, _, Brand>(&rt, alloc, publisher, domain, &gate, entrances));
-    let listener = &only.listener;
-    assert_eq!(rt;
-        listener.first.lock(&rt).as_slice(),
-        b"answer 0 none\n".as_slice()
-    );
-    assert_eq!(rt;
-        listener.second.lock(&rt).as_slice(),
-        b"answer 0 none\n".as_slice()
-    );
+    let first = Arc::new(alloc, Mutex::new(Vec::new(alloc)))?;
+    let second = Arc::new(alloc, Mutex::new(Vec::new(alloc)))?;
+    let (to_workers, jobs) = bounded(alloc, 2)?;
+    assert!(rt; hand_over(rt, &to_workers, 1, &first)?);
+    assert!(rt; hand_over(rt, &to_workers, 2, &second)?);
+    // Closes the channel, so that the workers end after both.
+    drop(to_workers);
+    assert!(rt; meet::<_, _, Brand>(&rt, alloc, publisher, domain, &gate, jobs));
+    assert_eq!(rt; first.lock(&rt).as_slice(), b"answer 0 none\n".as_slice());
+    assert_eq!(rt; second.lock(&rt).as_slice(), b"answer 0 none\n".as_slice());
     assert_eq!(rt; gate.first_came.load(Ordering::SeqCst), 1);
     assert_eq!(rt; gate.second_came.load(Ordering::SeqCst), 1);
     assert_eq!(rt; gate.gave_up.load(Ordering::SeqCst), 0);

@@ -167,7 +167,8 @@ fn serve<J: Naming, S: Alter + Drop, H: Wait + Clock + Copy + Drop>(
     let again = gather(&rt, &service, 100);
     drop(service.looker(&rt)?);
     let beside_one = gather(&rt, &service, 100);
-    let (stored, _connection) = stored_number(alloc, service.end(&rt))?;
+    let left = service.end(&rt);
+    let (stored, _connection) = stored_number(alloc, left.conn)?;
     Ok(Outcome {
         beside,
         crowds: [first, again, beside_one],

@@ -10,7 +10,8 @@ use Rattle.clap.specs.Walk.{Row, Rule, Text, is_empty, first_of, one_of, has_row
 use Rattle.clap.specs.declared.parser.matches.ValueSource.TheVariants.{CommandLine, DefaultValue}
 use Rattle.clap.specs.declared.builder.value_parser.Reading.TheVariants.{AsWritten}
 use Rattle.prt_addr.specs.Word.{Word}
-use Rattle.prt_words.specs.CommandLine.{flag_rule, database_rule, file_rule, text_of_flag}
+use Rattle.prt_words.specs.CommandLine.{flag_rule, database_rule, file_rule}
+use Rattle.prt_words.specs.Tasks.{text_of_flag}
 use Rattle.prt_words.specs.Invocation.{Argument, Force, Atomic, Verbose, Database, File, Given, Subcommand, Batch, Check, Replay, has_given, with_given}
 use Rattle.prt_words.proofs.Rows.{find_kept, find_last, row, valued}
 use Rattle.prt_words.proofs.WordClasses.{id_of, rules_of, shape_of}

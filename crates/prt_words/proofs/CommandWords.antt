@@ -10,7 +10,7 @@ use Rattle.clap.specs.declared.error.kind.ErrorKind.TheVariants as kind
 use Rattle.clap.proofs.OnLiterals.{clap_on_literals}
 use Rattle.prt_addr.specs.Word.{Word}
 use Rattle.prt_words.specs.Invocation.{Argument, Force, Atomic, Verbose, Database, File, Given, Invocation, anywhere, at_path, at_operands, asks_help, argument, unknown, Subcommand, Batch, Check, Replay, asked, asked_by, asked_in, file_of, has_given, is_delimiter, is_option, mode_of, nothing_given, usage_error, with_given}
-use Rattle.prt_words.specs.CommandLine.{text_of_flag}
+use Rattle.prt_words.specs.Tasks.{text_of_flag}
 use Rattle.prt_words.specs.declared.task.Mode.{Mode}
 use Rattle.prt_words.proofs.Rows.{used_once}
 use Rattle.prt_words.proofs.Arguments.{AreGiven, atomic_at_end, both_quiet, checks_quiet, database_at_end, defaults_quiet, file_at_end, forced_at_end, given_has, one_more, row_of, verbose_at_end}

@@ -1,9 +1,11 @@
 pub mod Rows
 pub mod Arguments
 pub mod CommandWords
+pub mod HelpWords
 pub mod LostWords
 pub mod ParsedWords
 pub mod Readings
+pub mod Operands
 pub mod Walks
 pub mod WordClasses
 pub mod WordsRead

@@ -1,21 +1,24 @@
 -- The words of the program, as clap reads them and as the definition of an invocation does.
-use Rattle.std.proofs.Common.{◌≡◌, ◌∙◌, ◌||◌, ℕ, Bool, true, false, true≢false, refl, sym, ap, ap₂, inl, subst, List, [], ◌∷◌, ◌++◌, Option, Some, None, is_some, codes, drop, append_assoc, append-nil, eqb-true, ne_eqb}
+use Rattle.std.proofs.Common.{◌≡◌, ◌∙◌, ◌||◌, ℕ, Bool, cond, true, false, refl, sym, ap, ap₂, inl, subst, List, [], ◌∷◌, ◌++◌, Option, Some, None, is_some, codes, drop, append_assoc, append-nil, eqb-true, ne_eqb}
 use Rattle.std.proofs.lemmas.Bool.{eq-eqb, eqb-false}
-use Rattle.std.specs.Prelude.{◌==◌, slice_get}
-use Rattle.std.specs.List.{fold, after_first}
+use Rattle.std.specs.Prelude.{◌==◌, find, slice_get, unwrap_or}
+use Rattle.std.specs.List.{fold, after_first, list_all}
+use Rattle.std.specs.Option.{option_map_or}
 use Rattle.std.specs.Str.{bytes_eq, chars}
 use Rattle.clap.proofs.OnLiterals.{clap_on_literals}
 use Rattle.clap.specs.Lexer.{long_of, has_byte}
 use Rattle.clap.specs.Kinds.{Kinds, or_else}
 use Rattle.clap.specs.Faults.{turn_fault, walk_fault, level_fault, entered_fault, settle_fault, defaults_fault, check_fault, fault_of, flags_fault}
-use Rattle.clap.specs.Simple.{Shape, built, entered, names_of, subcommand_of}
-use Rattle.clap.specs.Walk.{Names, Row, Text, Walk, walked, bundle_met, walk_from, nothing_held, settled, finished, rows_after}
+use Rattle.clap.specs.Simple.{Shape, built, entered, label_of, names_of, subcommand_of}
+use Rattle.clap.specs.Walk.{Names, answers_to, Row, Text, Walk, walked, bundle_met, walk_from, nothing_held, settled, finished, rows_after}
 use Rattle.clap.specs.declared.error.kind.ErrorKind.TheVariants as kind
 use Rattle.prt_addr.specs.Word.{Word}
-use Rattle.prt_words.specs.CommandLine.{asks_question, command_line, subcommand_name}
-use Rattle.prt_words.specs.Invocation.{Invocation, Subcommand, Batch, Check, Replay, anywhere, ask, asked_by, invocation, help, nothing_given, usage_error, is_analysis, is_help, is_question, is_service, is_version, version}
+use Rattle.prt_words.specs.CommandLine.{command_line}
+use Rattle.prt_words.specs.Tasks.{asks_question, subcommand_name}
+use Rattle.prt_words.specs.Invocation.{Invocation, Subcommand, Batch, Check, Replay, anywhere, ask, asked_by, invocation, has_help, help, nothing_given, usage_error, is_analysis, is_help, is_question, is_service, is_version, version}
 use Rattle.prt_words.proofs.WordClasses.{IsMistake, rules_of, shape_of, same_bytes, long_name, long_of_is, before_none, no_value_in, no_name_of, differs, flipped}
 use Rattle.prt_words.proofs.CommandWords.{subcommand_reads}
+use Rattle.prt_words.proofs.HelpWords.{AreBad, AreKnown, bad_or, both, check_bad, is_known, level_bad, neither}
 use Rattle.prt_words.proofs.Walks.{Agrees, name_of}
 
 abbrev top : Shape
@@ -156,10 +159,10 @@ unfolding walked
 stays name seen [] = ap (stop_at name) (sym (append-nil seen))
 stays name seen (word ∷ words) = stays name (seen ++ word ∷ []) words ∙ ap (stop_at name) (append_assoc seen (word ∷ []) words)
 
-no_fault : (s : Subcommand) (seen words : List Text) → walk_fault top names (stop_at (name_of s) seen) words ≡ []
+no_fault : (name : Text) (seen words : List Text) → walk_fault top names (stop_at name seen) words ≡ []
 unfolding walked walk_fault
-no_fault s seen [] = refl
-no_fault s seen (word ∷ words) = no_fault s (seen ++ word ∷ []) words
+no_fault name seen [] = refl
+no_fault name seen (word ∷ words) = no_fault name (seen ++ word ∷ []) words
 
 or_else-nil : (kinds : Kinds) → or_else kinds [] ≡ kinds
 or_else-nil [] = refl
@@ -182,11 +185,11 @@ own_fault s words = level_fault (shape_of s) [] nothing_held words false []
 fault_of_subcommand : (s : Subcommand) (program : Text) (words : List Text) → fault_of command_line (program ∷ name_of s ∷ words) ≡ own_fault s words
 unfolding walked walk_fault defaults_fault
 fault_of_subcommand Batch program words =
-    ap₂ (λ kinds at. or_else kinds (kinds_after at)) (no_fault Batch [] words) (stays (codes "batch") [] words) ∙ or_else-nil (own_fault Batch words)
+    ap₂ (λ kinds at. or_else kinds (kinds_after at)) (no_fault (codes "batch") [] words) (stays (codes "batch") [] words) ∙ or_else-nil (own_fault Batch words)
 fault_of_subcommand Check program words =
-    ap₂ (λ kinds at. or_else kinds (kinds_after at)) (no_fault Check [] words) (stays (codes "check") [] words) ∙ or_else-nil (own_fault Check words)
+    ap₂ (λ kinds at. or_else kinds (kinds_after at)) (no_fault (codes "check") [] words) (stays (codes "check") [] words) ∙ or_else-nil (own_fault Check words)
 fault_of_subcommand Replay program words =
-    ap₂ (λ kinds at. or_else kinds (kinds_after at)) (no_fault Replay [] words) (stays (codes "replay") [] words) ∙ or_else-nil (own_fault Replay words)
+    ap₂ (λ kinds at. or_else kinds (kinds_after at)) (no_fault (codes "replay") [] words) (stays (codes "replay") [] words) ∙ or_else-nil (own_fault Replay words)
 
 abbrev found_by : Subcommand → List Text → Option (Text × List Row)
 found_by s words = Some (name_of s, rows_after (rules_of s) [] words)
@@ -327,8 +330,71 @@ tells_version word words other h v = rw (flipped (codes "batch") word other.no_b
 asks_nothing : (word : Word) (words : List Word) → IsOther word → is_help word ≡ false → is_version word ≡ false → invocation (word ∷ words) ≡ usage_error
 asks_nothing word words other h v = rw (flipped (codes "batch") word other.no_batch, flipped (codes "check") word other.no_check, flipped (codes "replay") word other.no_replay, flipped (codes "serve") word other.no_serve, no_question word other, flipped (codes "help") word other.no_help, h, v) refl
 
+-- ---- the words of `serve` and of a question
+
+-- the walk over the program's own words stops at this one
+abbrev Stops : Text → Type 0
+Stops name = (first_turn name ≡ []) × (walked top.rules names start name ≡ stop_at name [])
+
+serve_stops : Stops (codes "serve")
+unfolding walked
+serve_stops = (refl, refl)
+
+question_stops : (word : Text) → is_question word ≡ true → Stops word
+unfolding walked
+question_stops word is =
+    either_word _ _ is (λ e. by (codes "get") e (refl, refl))
+    (λ is. either_word _ _ is (λ e. by (codes "show") e (refl, refl))
+    (λ is. either_word _ _ is (λ e. by (codes "explain") e (refl, refl))
+    (λ is. either_word _ _ is (λ e. by (codes "dump") e (refl, refl))
+    (λ is. either_word _ _ is (λ e. by (codes "diff") e (refl, refl))
+    (λ is. either_word _ _ is (λ e. by (codes "follow") e (refl, refl))
+    (λ is. either_word _ _ is (λ e. by (codes "wait") e (refl, refl))
+    (λ is. either_word _ _ is (λ e. by (codes "import") e (refl, refl))
+    (λ is. either_word _ _ is
+    (λ analysis. either_word _ _ analysis (λ e. by (codes "impact") e (refl, refl))
+    (λ analysis. either_word _ _ analysis (λ e. by (codes "assert") e (refl, refl))
+    (λ e. by (codes "unused") e (refl, refl))))
+    (λ service. either_word _ _ service (λ e. by (codes "apply") e (refl, refl))
+    (λ e. by (codes "status") e (refl, refl)))))))))))
+  where
+    by : (name : Text) → bytes_eq word name ≡ true → Stops name → Stops word
+    by name same stops = subst Stops (sym (same_bytes word name same)) stops
+
+-- each subcommand asks for help by `--help` and `-h` alone
+subs_known : list_all (λ (s : Shape). list_all is_known s.rules) (built command_line).subs ≡ true
+subs_known = refl
+
+shape_known : (p : Shape → Bool) (shapes : List Shape) (s : Shape) → list_all (λ (s : Shape). list_all is_known s.rules) shapes ≡ true → find p shapes ≡ Some s → AreKnown s.rules
+shape_known p [] s known is = absurd cc
+shape_known p (x ∷ shapes) s known is = go (p x) is (shape_known p shapes s (both (list_all is_known x.rules) _ known).1)
+  where
+    go : (b : Bool) → cond b (Some x) (find p shapes) ≡ Some s → (find p shapes ≡ Some s → AreKnown s.rules) → AreKnown s.rules
+    go true is later = subst (λ (x : Shape). AreKnown x.rules) (ap (λ found. unwrap_or found x) is) (both (list_all is_known x.rules) _ known).0
+    go false is later = later is
+
+entered_bad : (name : Text) (words : List Text) → has_help words ≡ false → AreBad (entered_fault (built command_line) (Some (name, words)))
+entered_bad name words none = go (find (λ s. answers_to name (label_of s)) (built command_line).subs) refl
+  where
+    go : (found : Option Shape) → find (λ s. answers_to name (label_of s)) (built command_line).subs ≡ found → AreBad (option_map_or (λ s. level_fault s [] nothing_held words false []) found [])
+    go None is = refl
+    go (Some s) is = level_bad s (shape_known (λ s. answers_to name (label_of s)) (built command_line).subs s subs_known is) words none
+
+after_bad : (name : Text) (words : List Text) → has_help words ≡ false → AreBad (kinds_after (stop_at name words))
+unfolding defaults_fault
+after_bad name words none =
+    bad_or (entered_fault (built command_line) (Some (name, words))) (check_fault top (finished top.rules nothing_held) (is_some (entered (built command_line) (Some (name, words)))))
+    (entered_bad name words none) (check_bad top (finished top.rules nothing_held) (is_some (entered (built command_line) (Some (name, words)))))
+
+words_bad : (program name : Text) (words : List Text) → Stops name → has_help words ≡ false → AreBad (fault_of command_line (program ∷ name ∷ words))
+words_bad program name words stops none =
+    subst AreBad (sym (first_refused program name words [] stops.0))
+    (subst (λ (at : Walk). AreBad (or_else (or_else [] (walk_fault top names at words)) (kinds_after (walk_over at words)))) (sym stops.1)
+    (subst (λ kinds. AreBad (or_else kinds (kinds_after (walk_over (stop_at name []) words)))) (sym (no_fault name [] words))
+    (subst (λ (at : Walk). AreBad (kinds_after at)) (sym (stays name [] words)) (after_bad name words none))))
+
 question_asked : (word : Word) (words : List Word) → bytes_eq word (codes "batch") ≡ false → bytes_eq word (codes "check") ≡ false → bytes_eq word (codes "replay") ≡ false → bytes_eq word (codes "serve") ≡ false
-    → is_question word ≡ true → invocation (word ∷ words) ≡ ask
+    → is_question word ≡ true → invocation (word ∷ words) ≡ ask (word ∷ words)
 question_asked word words b c r s q = rw (b, c, r, s, q) refl
 
 agrees_on_first : (program word : Text) (words : List Text) → First word → IsOther word → AgreesOn (invocation (word ∷ words)) (program ∷ word ∷ words)
@@ -341,10 +407,6 @@ agrees_on_first program word words (tells h v turn) other =
     subst (λ i. AgreesOn i (program ∷ word ∷ words)) (sym (tells_version word words other h v)) (first_refused program word words (kind.DisplayVersion ∷ []) turn)
 agrees_on_first program word words (mistake h v turn) other =
     subst (λ i. AgreesOn i (program ∷ word ∷ words)) (sym (asks_nothing word words other h v)) (inl (first_mistaken program word words turn))
-
-neither : (a b : Bool) → (a || b) ≡ false → (a ≡ false) × (b ≡ false)
-neither true b e = absurd (true≢false e)
-neither false b e = (refl, e)
 
 -- a word that is none of the subcommands
 other_word : (word : Word) → bytes_eq word (codes "batch") ≡ false → bytes_eq word (codes "check") ≡ false → bytes_eq word (codes "replay") ≡ false → bytes_eq word (codes "serve") ≡ false → is_question word ≡ false
@@ -393,9 +455,10 @@ agrees_on_words program word words false true is_replay is_serve is_ask is_topic
 agrees_on_words program word words false false true is_serve is_ask is_topic b c r s q h =
     subst (λ w. AgreesOn (invocation (w ∷ words)) (program ∷ w ∷ words)) (sym (same_bytes word (codes "replay") r)) (agrees_on_subcommand Replay program words)
 agrees_on_words program word words false false false true is_ask is_topic b c r s q h =
-    subst (λ w. AgreesOn (invocation (w ∷ words)) (program ∷ w ∷ words)) (sym (same_bytes word (codes "serve") s)) (serve_named program words)
+    subst (λ w. AgreesOn (invocation (w ∷ words)) (program ∷ w ∷ words)) (sym (same_bytes word (codes "serve") s))
+    (serve_named program words, λ none. words_bad program (codes "serve") words serve_stops (neither (is_help (codes "serve")) (has_help words) none).1)
 agrees_on_words program word words false false false false true is_topic b c r s q h =
-    subst (λ asked. AgreesOn asked (program ∷ word ∷ words)) (sym (question_asked word words b c r s q)) (question_named program word words q)
+    subst (λ asked. AgreesOn asked (program ∷ word ∷ words)) (sym (question_asked word words b c r s q)) (question_named program word words q, λ none. words_bad program word words (question_stops word q) (neither (is_help word) (has_help words) none).1)
 agrees_on_words program word words false false false false false true b c r s q h =
     subst (λ w. AgreesOn (invocation (w ∷ words)) (program ∷ w ∷ words)) (sym (same_bytes word (codes "help") h)) (first_refused program (codes "help") words (kind.DisplayHelp ∷ kind.InvalidSubcommand ∷ []) refl)
 agrees_on_words program word words false false false false false false b c r s q h =

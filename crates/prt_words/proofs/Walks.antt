@@ -8,9 +8,10 @@ use Rattle.clap.specs.Walk.{Held, Row, Text, Walk, walked, settled, finished}
 use Rattle.clap.specs.declared.error.kind.ErrorKind.{ErrorKind}
 use Rattle.clap.specs.declared.error.kind.ErrorKind.TheVariants as kind
 use Rattle.prt_addr.specs.Word.{Word}
-use Rattle.prt_words.specs.CommandLine.{asks_question, flag_text, named_database, named_file, subcommand_name, text_of_flag}
+use Rattle.prt_words.specs.Tasks.{asks_question, flag_text, named_database, named_file, subcommand_name, text_of_flag}
 use Rattle.prt_words.specs.declared.task.Mode.{Mode}
-use Rattle.prt_words.specs.Invocation.{Invocation, ArgumentPlace, Part, Given, Subcommand, Batch, Check, Replay, ask, asked_by, asked_with, batch, check, file_of, help, help_on, mode_of, part_at, replay, serve, usage_error, version}
+use Rattle.prt_words.specs.Invocation.{Invocation, ArgumentPlace, Part, Given, Subcommand, Batch, Check, Replay, ask, asked_by, asked_with, batch, check, file_of, has_help, help, help_on, mode_of, part_at, replay, serve, usage_error, version}
+use Rattle.prt_words.proofs.HelpWords.{AreBad}
 use Rattle.prt_words.proofs.WordClasses.{IsMistake, mistaken_or, rules_of, shape_of}
 
 abbrev pub name_of : Subcommand → Text
@@ -43,8 +44,8 @@ Agrees (replay file) kinds found =
     (kinds ≡ [])
     × (subcommand_name found ≡ Some (codes "replay"))
     × (option_and_then file_of (named_file found) ≡ file)
-Agrees serve kinds found = subcommand_name found ≡ Some (codes "serve")
-Agrees ask kinds found = asks_question (subcommand_name found) ≡ true
+Agrees (serve own) kinds found = (subcommand_name found ≡ Some (codes "serve")) × (has_help own ≡ false → AreBad kinds)
+Agrees (ask own) kinds found = (asks_question (subcommand_name found) ≡ true) × (has_help own ≡ false → AreBad kinds)
 Agrees help kinds found = kinds ≡ kind.DisplayHelp ∷ []
 Agrees version kinds found = kinds ≡ kind.DisplayVersion ∷ []
 Agrees help_on kinds found = kinds ≡ kind.DisplayHelp ∷ kind.InvalidSubcommand ∷ []

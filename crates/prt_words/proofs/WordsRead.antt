@@ -4,26 +4,31 @@ use Rattle.std.specs.Borrow.{Bor}
 use Rattle.std.specs.Str.{bytes_eq}
 use Rattle.std.specs.Box.{box_value}
 use Rattle.std.specs.Prelude.{Box, Err, IfErr, MatchOption, Ok, Result, ℕ, ◌==◌, option_and_then, slice_get, unwrap_or}
-use Rattle.clap.specs.Words.{fault_of, subcommand_name_of, subcommand_of, subcommand_rows, subcommand_rows_of}
+use Rattle.clap.specs.Words.{fault_of, found_of, rows_of, subcommand_name_of, subcommand_of, subcommand_rows, subcommand_rows_of}
 use Rattle.clap.specs.declared.parser.matches.SubCommand.{SubCommand}
 use Rattle.clap.specs.declared.parser.matches.ArgMatches.{ArgMatches}
 use Rattle.clap.specs.declared.parser.matches.ArgMatches.TheViews.{out-ArgMatches, out-SubCommand}
 use Rattle.clap.specs.Walk.{Row}
 use Rattle.prt_addr.specs.Word.{Word}
-use Rattle.prt_words.specs.CommandLine.{asks_question, IsConflict, IsModeOf, IsQuestionOf, IsTaskOf, command_line, invocation_of, subcommand_name, flag_text, text_of_flag}
+use Rattle.prt_words.specs.CommandLine.{command_line}
+use Rattle.prt_words.specs.Tasks.{asks_question, IsConflict, IsModeOf, IsQuestionOf, IsTaskOf, invocation_of, subcommand_name, flag_text, text_of_flag}
 use Rattle.std.specs.List.{list_all}
 use Rattle.clap.specs.Kinds.{HasKind, IsAmong, Kinds}
 use Rattle.clap.specs.Words.{Text, kind_of}
 use Rattle.clap.specs.declared.error.Error.{Error}
 use Rattle.clap.specs.declared.error.kind.ErrorKind.{ErrorKind}
 use Rattle.clap.specs.declared.error.kind.ErrorKind.TheVariants.{DisplayHelp, DisplayVersion, InvalidSubcommand}
-use Rattle.prt_words.specs.Faults.{FaultOf, IsStatusOf, IsWordsFault, words_status}
-use Rattle.prt_words.specs.Invocation.{Invocation, ask, batch, check, replay, serve, help, help_on, version, invocation, is_help, is_question, is_version, usage_error, file_of}
+use Rattle.prt_words.specs.Faults.{FaultOf, IsHelpOrBad, IsStatusOf, IsWordsFault, words_status}
+use Rattle.prt_words.specs.Invocation.{Invocation, anywhere, ask, asked_by, batch, check, replay, serve, has_help, help, help_on, nothing_given, version, invocation, is_help, is_question, is_version, usage_error, file_of}
 use Rattle.prt_words.specs.Invocation as subcommand
+use Rattle.prt_words.specs.Read.{IsFoundIn, IsReadFrom}
 use Rattle.prt_words.specs.declared.task.Mode.{Mode}
 use Rattle.prt_words.specs.declared.fault.Fault.{Fault}
+use Rattle.prt_words.specs.declared.fault.Fault.TheVariants.{Listener, Opening, Words}
 use Rattle.prt_words.specs.declared.task.Task.{Task}
 use Rattle.prt_words.specs.declared.task.Task.TheVariants.{Ask, Batch, Check, Replay, Serve}
+use Rattle.prt_words.proofs.CommandWords.{subcommand_reads}
+use Rattle.prt_words.proofs.HelpWords.{AreBad}
 use Rattle.prt_words.proofs.ParsedWords.{named_is, question_found, serve_named, subcommand_found, words_agree}
 use Rattle.prt_words.proofs.Walks.{Agrees, HasMode}
 use Rattle.prt_words.proofs.WordClasses.{IsMistake, is_mistake, same_bytes}
@@ -82,55 +87,96 @@ replay_no_serve = other_name 114 (Some (codes "replay")) (Some (codes "serve")) 
 no_question : (name : Option Text) (other : Text) → asks_question (Some other) ≡ false → name ≡ Some other → asks_question name ≡ true → ⊥
 no_question name other none same is = true≢false (sym is ∙ ap asks_question same ∙ none)
 
+-- what `serve` and a question carry is all the words
+abbrev HasOwn : Invocation → List Word → Type 0
+HasOwn (serve own) words = own ≡ words
+HasOwn (ask own) words = own ≡ words
+HasOwn _ words = Unit {0}
+
+-- a script, a check and a replay is none of these
+own_script : (asked : Invocation) (kinds : Kinds) (found : Option (Text × List Row)) (words : List Word) → Agrees asked kinds found → (subcommand_name found ≡ Some (codes "serve") → ⊥)
+    → asks_question (subcommand_name found) ≡ false → HasOwn asked words
+own_script (serve own) kinds found words agrees no_serve no_ask = absurd (no_serve agrees.0)
+own_script (ask own) kinds found words agrees no_serve no_ask = absurd (true≢false (sym agrees.0 ∙ no_ask))
+own_script _ kinds found words agrees no_serve no_ask = tt
+
+own_subcommand : (s : subcommand.Subcommand) (words all : List Word) → HasOwn (asked_by s words anywhere nothing_given) all
+own_subcommand subcommand.Batch words all = own_script _ _ _ all (subcommand_reads subcommand.Batch words) batch_no_serve refl
+own_subcommand subcommand.Check words all = own_script _ _ _ all (subcommand_reads subcommand.Check words) check_no_serve refl
+own_subcommand subcommand.Replay words all = own_script _ _ _ all (subcommand_reads subcommand.Replay words) replay_no_serve refl
+
+own_by : (word : Word) (words : List Word) (b c r s q t h v : Bool)
+    → HasOwn (cond b (asked_by subcommand.Batch words anywhere nothing_given) (cond c (asked_by subcommand.Check words anywhere nothing_given) (cond r (asked_by subcommand.Replay words anywhere nothing_given)
+    (cond s (serve (word ∷ words)) (cond q (ask (word ∷ words)) (cond t help_on (cond h help (cond v version usage_error)))))))) (word ∷ words)
+own_by word words true c r s q t h v = own_subcommand subcommand.Batch words (word ∷ words)
+own_by word words false true r s q t h v = own_subcommand subcommand.Check words (word ∷ words)
+own_by word words false false true s q t h v = own_subcommand subcommand.Replay words (word ∷ words)
+own_by word words false false false true q t h v = refl
+own_by word words false false false false true t h v = refl
+own_by word words false false false false false true h v = tt
+own_by word words false false false false false false true v = tt
+own_by word words false false false false false false false true = tt
+own_by word words false false false false false false false false = tt
+
+has_own : (words : List Word) → HasOwn (invocation words) words
+has_own [] = tt
+has_own (word ∷ words) = own_by word words (bytes_eq word (codes "batch")) (bytes_eq word (codes "check")) (bytes_eq word (codes "replay")) (bytes_eq word (codes "serve")) (is_question word) (bytes_eq word (codes "help")) (is_help word) (is_version word)
+
+served_own : (words own : List Word) → invocation words ≡ serve own → invocation words ≡ serve words
+served_own words own is = is ∙ ap serve (subst (λ asked. HasOwn asked words) is (has_own words))
+
+asked_own : (words own : List Word) → invocation words ≡ ask own → invocation words ≡ ask words
+asked_own words own is = is ∙ ap ask (subst (λ asked. HasOwn asked words) is (has_own words))
+
 -- a parse without an error found `serve`, a question or another task
-serve_is : (asked : Invocation) (kinds : Kinds) (found : Option (Text × List Row)) → Agrees asked kinds found → kinds ≡ [] → subcommand_name found ≡ Some (codes "serve") → asked ≡ serve
+serve_is : (asked : Invocation) (kinds : Kinds) (found : Option (Text × List Row)) → Agrees asked kinds found → kinds ≡ [] → subcommand_name found ≡ Some (codes "serve") → (own : List Word) × (asked ≡ serve own)
 serve_is (batch script) kinds found agrees none is = absurd (batch_no_serve (sym agrees.1 ∙ is))
 serve_is (check file) kinds found agrees none is = absurd (check_no_serve (sym agrees.1 ∙ is))
 serve_is (replay file) kinds found agrees none is = absurd (replay_no_serve (sym agrees.1 ∙ is))
-serve_is serve kinds found agrees none is = refl
-serve_is ask kinds found agrees none is = absurd (no_question (subcommand_name found) (codes "serve") refl is agrees)
+serve_is (serve own) kinds found agrees none is = (own, refl)
+serve_is (ask own) kinds found agrees none is = absurd (no_question (subcommand_name found) (codes "serve") refl is agrees.0)
 serve_is help kinds found agrees none is = absurd (not_empty _ _ (sym agrees ∙ none))
 serve_is version kinds found agrees none is = absurd (not_empty _ _ (sym agrees ∙ none))
 serve_is help_on kinds found agrees none is = absurd (not_empty _ _ (sym agrees ∙ none))
 serve_is usage_error kinds found (inl mistake) none is = absurd (subst IsMistake none mistake)
 serve_is usage_error kinds found (inr conflict) none is = absurd (batch_no_serve (sym conflict.1 ∙ is))
 
-ask_is : (asked : Invocation) (kinds : Kinds) (found : Option (Text × List Row)) → Agrees asked kinds found → kinds ≡ [] → asks_question (subcommand_name found) ≡ true → asked ≡ ask
+ask_is : (asked : Invocation) (kinds : Kinds) (found : Option (Text × List Row)) → Agrees asked kinds found → kinds ≡ [] → asks_question (subcommand_name found) ≡ true → (own : List Word) × (asked ≡ ask own)
 ask_is (batch script) kinds found agrees none is = absurd (no_question (subcommand_name found) (codes "batch") refl agrees.1 is)
 ask_is (check file) kinds found agrees none is = absurd (no_question (subcommand_name found) (codes "check") refl agrees.1 is)
 ask_is (replay file) kinds found agrees none is = absurd (no_question (subcommand_name found) (codes "replay") refl agrees.1 is)
-ask_is serve kinds found agrees none is = absurd (no_question (subcommand_name found) (codes "serve") refl agrees is)
-ask_is ask kinds found agrees none is = refl
+ask_is (serve own) kinds found agrees none is = absurd (no_question (subcommand_name found) (codes "serve") refl agrees.0 is)
+ask_is (ask own) kinds found agrees none is = (own, refl)
 ask_is help kinds found agrees none is = absurd (not_empty _ _ (sym agrees ∙ none))
 ask_is version kinds found agrees none is = absurd (not_empty _ _ (sym agrees ∙ none))
 ask_is help_on kinds found agrees none is = absurd (not_empty _ _ (sym agrees ∙ none))
 ask_is usage_error kinds found (inl mistake) none is = absurd (subst IsMistake none mistake)
 ask_is usage_error kinds found (inr conflict) none is = absurd (no_question (subcommand_name found) (codes "batch") refl conflict.1 is)
 
-task_is : (asked : Invocation) (kinds : Kinds) (found : Option (Text × List Row)) (task : Task) → Agrees asked kinds found → kinds ≡ [] → (subcommand_name found ≡ Some (codes "serve") → ⊥) → asks_question (subcommand_name found) ≡ false → IsTaskOf found task
-    → asked ≡ invocation_of task
-task_is asked kinds found (Serve serving) agrees none other no_ask is = absurd is
-task_is asked kinds found (Ask asking) agrees none other no_ask is = absurd is
-task_is (batch script) kinds found (Batch task) agrees none other no_ask is =
+task_is : (words : List Word) (asked : Invocation) (kinds : Kinds) (found : Option (Text × List Row)) (task : Task) → Agrees asked kinds found → kinds ≡ [] → (subcommand_name found ≡ Some (codes "serve") → ⊥) → asks_question (subcommand_name found) ≡ false → IsTaskOf found task
+    → asked ≡ invocation_of words task
+task_is words asked kinds found (Serve serving) agrees none other no_ask is = absurd is
+task_is words asked kinds found (Ask asking) agrees none other no_ask is = absurd is
+task_is words (batch script) kinds found (Batch task) agrees none other no_ask is =
     script_is (some_mode task.mode script.mode (mode_is (Some script.mode) (Some task.mode) found agrees.4 is.4)) (flag_is task.is_verbose script.verbose (flag_text (codes "verbose") found) agrees.5 is.5 is.6)
     (sym (is.3 ∙ agrees.3)) (sym (is.2 ∙ agrees.2))
-task_is (batch script) kinds found (Check file) agrees none other no_ask is = absurd (no_check (sym agrees.1 ∙ is.0))
-task_is (batch script) kinds found (Replay file) agrees none other no_ask is = absurd (no_replay (sym agrees.1 ∙ is.0))
-task_is (check file) kinds found (Batch task) agrees none other no_ask is = absurd (is.0 agrees.1)
-task_is (check file) kinds found (Check path) agrees none other no_ask is = ap check (sym (is.1 ∙ agrees.2))
-task_is (check file) kinds found (Replay path) agrees none other no_ask is = absurd (check_no_replay (sym agrees.1 ∙ is.0))
-task_is (replay file) kinds found (Batch task) agrees none other no_ask is = absurd (is.1 agrees.1)
-task_is (replay file) kinds found (Check path) agrees none other no_ask is = absurd (check_no_replay (sym is.0 ∙ agrees.1))
-task_is (replay file) kinds found (Replay path) agrees none other no_ask is = ap replay (sym (is.1 ∙ agrees.2))
-task_is serve kinds found task agrees none other no_ask is = absurd (other agrees)
-task_is ask kinds found task agrees none other no_ask is = absurd (true≢false (sym agrees ∙ no_ask))
-task_is help kinds found task agrees none other no_ask is = absurd (not_empty _ _ (sym agrees ∙ none))
-task_is version kinds found task agrees none other no_ask is = absurd (not_empty _ _ (sym agrees ∙ none))
-task_is help_on kinds found task agrees none other no_ask is = absurd (not_empty _ _ (sym agrees ∙ none))
-task_is usage_error kinds found task (inl mistake) none other no_ask is = absurd (subst IsMistake none mistake)
-task_is usage_error kinds found (Batch task) (inr conflict) none other no_ask is = absurd (no_mode task.mode (mode_is None (Some task.mode) found conflict.2 is.4))
-task_is usage_error kinds found (Check path) (inr conflict) none other no_ask is = absurd (no_check (sym conflict.1 ∙ is.0))
-task_is usage_error kinds found (Replay path) (inr conflict) none other no_ask is = absurd (no_replay (sym conflict.1 ∙ is.0))
+task_is words (batch script) kinds found (Check file) agrees none other no_ask is = absurd (no_check (sym agrees.1 ∙ is.0))
+task_is words (batch script) kinds found (Replay file) agrees none other no_ask is = absurd (no_replay (sym agrees.1 ∙ is.0))
+task_is words (check file) kinds found (Batch task) agrees none other no_ask is = absurd (is.0 agrees.1)
+task_is words (check file) kinds found (Check path) agrees none other no_ask is = ap check (sym (is.1 ∙ agrees.2))
+task_is words (check file) kinds found (Replay path) agrees none other no_ask is = absurd (check_no_replay (sym agrees.1 ∙ is.0))
+task_is words (replay file) kinds found (Batch task) agrees none other no_ask is = absurd (is.1 agrees.1)
+task_is words (replay file) kinds found (Check path) agrees none other no_ask is = absurd (check_no_replay (sym is.0 ∙ agrees.1))
+task_is words (replay file) kinds found (Replay path) agrees none other no_ask is = ap replay (sym (is.1 ∙ agrees.2))
+task_is words (serve own) kinds found task agrees none other no_ask is = absurd (other agrees.0)
+task_is words (ask own) kinds found task agrees none other no_ask is = absurd (true≢false (sym agrees.0 ∙ no_ask))
+task_is words help kinds found task agrees none other no_ask is = absurd (not_empty _ _ (sym agrees ∙ none))
+task_is words version kinds found task agrees none other no_ask is = absurd (not_empty _ _ (sym agrees ∙ none))
+task_is words help_on kinds found task agrees none other no_ask is = absurd (not_empty _ _ (sym agrees ∙ none))
+task_is words usage_error kinds found task (inl mistake) none other no_ask is = absurd (subst IsMistake none mistake)
+task_is words usage_error kinds found (Batch task) (inr conflict) none other no_ask is = absurd (no_mode task.mode (mode_is None (Some task.mode) found conflict.2 is.4))
+task_is words usage_error kinds found (Check path) (inr conflict) none other no_ask is = absurd (no_check (sym conflict.1 ∙ is.0))
+task_is words usage_error kinds found (Replay path) (inr conflict) none other no_ask is = absurd (no_replay (sym conflict.1 ∙ is.0))
 
 -- a script that can be executed in no way
 conflict_is : (asked : Invocation) (kinds : Kinds) (found : Option (Text × List Row)) → Agrees asked kinds found → kinds ≡ [] → (subcommand_name found ≡ Some (codes "serve") → ⊥) → asks_question (subcommand_name found) ≡ false → IsConflict found
@@ -138,8 +184,8 @@ conflict_is : (asked : Invocation) (kinds : Kinds) (found : Option (Text × List
 conflict_is (batch script) kinds found agrees none other no_ask is = absurd (no_mode script.mode (sym (mode_is (Some script.mode) None found agrees.4 is.2)))
 conflict_is (check file) kinds found agrees none other no_ask is = absurd (is.0 agrees.1)
 conflict_is (replay file) kinds found agrees none other no_ask is = absurd (is.1 agrees.1)
-conflict_is serve kinds found agrees none other no_ask is = absurd (other agrees)
-conflict_is ask kinds found agrees none other no_ask is = absurd (true≢false (sym agrees ∙ no_ask))
+conflict_is (serve own) kinds found agrees none other no_ask is = absurd (other agrees.0)
+conflict_is (ask own) kinds found agrees none other no_ask is = absurd (true≢false (sym agrees.0 ∙ no_ask))
 conflict_is help kinds found agrees none other no_ask is = absurd (not_empty _ _ (sym agrees ∙ none))
 conflict_is version kinds found agrees none other no_ask is = absurd (not_empty _ _ (sym agrees ∙ none))
 conflict_is help_on kinds found agrees none other no_ask is = absurd (not_empty _ _ (sym agrees ∙ none))
@@ -160,17 +206,29 @@ mistakes_status (x ∷ kinds) k all (inl is) = ap words_status is ∙ mistake_st
 mistakes_status (x ∷ kinds) k all (inr among) = mistakes_status kinds k (both (is_mistake x) (list_all is_mistake kinds) all).1 among
 
 -- an error is a request for help, or bad words
-either_status : (k : ErrorKind) → (words_status k ≡ 0) ⊎ (words_status k ≡ 2)
+pub either_status : (k : ErrorKind) → (words_status k ≡ 0) ⊎ (words_status k ≡ 2)
 either_status DisplayHelp = inl refl
 either_status DisplayVersion = inl refl
 either_status _ = inr refl
+
+-- it is a request for help only if some word asks for it
+help_status : (own : List Word) (kinds : Kinds) (k : ErrorKind) → (has_help own ≡ false → AreBad kinds) → IsAmong k kinds → IsHelpOrBad own (words_status k)
+help_status own kinds k bad among = go (has_help own) refl
+  where
+    helped : has_help own ≡ true → (words_status k ≡ 0) ⊎ (words_status k ≡ 2) → IsHelpOrBad own (words_status k)
+    helped e (inl zero) = inl (e, zero)
+    helped e (inr two) = inr two
+
+    go : (has : Bool) → has_help own ≡ has → IsHelpOrBad own (words_status k)
+    go true e = helped e (either_status k)
+    go false e = inr (mistakes_status kinds k (bad e) among)
 
 status_of_kind : (asked : Invocation) (kinds : Kinds) (found : Option (Text × List Row)) (k : ErrorKind) → Agrees asked kinds found → IsAmong k kinds → IsStatusOf asked (words_status k)
 status_of_kind (batch script) kinds found k agrees among = subst (IsAmong k) agrees.0 among
 status_of_kind (check file) kinds found k agrees among = subst (IsAmong k) agrees.0 among
 status_of_kind (replay file) kinds found k agrees among = subst (IsAmong k) agrees.0 among
-status_of_kind serve kinds found k agrees among = either_status k
-status_of_kind ask kinds found k agrees among = either_status k
+status_of_kind (serve own) kinds found k agrees among = help_status own kinds k agrees.1 among
+status_of_kind (ask own) kinds found k agrees among = help_status own kinds k agrees.1 among
 status_of_kind help kinds found k agrees among = shown (subst (IsAmong k) agrees among)
   where
     shown : IsAmong k (DisplayHelp ∷ []) → words_status k ≡ 0
@@ -221,16 +279,24 @@ path_of (Some word) path is = is
 
 -- the task that a parse without an error found: `serve`, a question or another
 pub served_is : (words : List Text) (m : ArgMatches) → subcommand_rows_of m ≡ subcommand_of command_line words → fault_of command_line words ≡ [] → subcommand_name_of m ≡ Some (codes "serve")
-    → invocation (drop 1 words) ≡ serve
+    → invocation (drop 1 words) ≡ serve (drop 1 words)
 served_is words m found none named =
-    serve_is (invocation (drop 1 words)) (fault_of command_line words) (subcommand_of command_line words) (words_agree words) none
-    (sym (ap subcommand_name found) ∙ sym (name_of_found (out-ArgMatches m).subcommand) ∙ named)
+    served_own (drop 1 words) _ (serve_is (invocation (drop 1 words)) (fault_of command_line words) (subcommand_of command_line words) (words_agree words) none
+    (sym (ap subcommand_name found) ∙ sym (name_of_found (out-ArgMatches m).subcommand) ∙ named)).1
 
 pub asked_is : (words : List Text) (m : ArgMatches) → subcommand_rows_of m ≡ subcommand_of command_line words → fault_of command_line words ≡ [] → asks_question (subcommand_name_of m) ≡ true
-    → invocation (drop 1 words) ≡ ask
+    → invocation (drop 1 words) ≡ ask (drop 1 words)
 asked_is words m found none named =
-    ask_is (invocation (drop 1 words)) (fault_of command_line words) (subcommand_of command_line words) (words_agree words) none
-    (ap asks_question (sym (ap subcommand_name found) ∙ sym (name_of_found (out-ArgMatches m).subcommand)) ∙ named)
+    asked_own (drop 1 words) _ (ask_is (invocation (drop 1 words)) (fault_of command_line words) (subcommand_of command_line words) (words_agree words) none
+    (ap asks_question (sym (ap subcommand_name found) ∙ sym (name_of_found (out-ArgMatches m).subcommand)) ∙ named)).1
+
+-- the subcommand that was found, in all words
+pub found_in : (words : List Text) (m : ArgMatches) (name : Text) (matches : ArgMatches) → subcommand_rows_of m ≡ subcommand_of command_line words → subcommand_rows_of m ≡ Some (name, rows_of (found_of matches))
+    → IsFoundIn (drop 1 words) name matches
+found_in words m name matches found is = sym found ∙ is
+
+pub named_found : (m : ArgMatches) (name : Text) (rows : List Row) → subcommand_name_of m ≡ Some name → option_map (λ p. p.1) (subcommand_rows_of m) ≡ Some rows → subcommand_rows_of m ≡ Some (name, rows)
+named_found m name rows named has = found_is (subcommand_rows_of m) name rows (sym named ∙ name_of_found (out-ArgMatches m).subcommand) (sym has)
 
 -- a word that names no task of its own
 no_subcommand : (word : Text) (words : List Text) → bytes_eq word (codes "batch") ≡ false → bytes_eq word (codes "check") ≡ false → bytes_eq word (codes "replay") ≡ false → bytes_eq word (codes "serve") ≡ false
@@ -238,11 +304,11 @@ no_subcommand : (word : Text) (words : List Text) → bytes_eq word (codes "batc
 no_subcommand word words b c r s q = rw (b, c, r, s, q) refl
 
 -- the word that asks a question
-never_ask : (topic h v : Bool) → cond topic help_on (cond h help (cond v version usage_error)) ≡ ask → ⊥
-never_ask true h v is = absurd cc
-never_ask false true v is = absurd cc
-never_ask false false true is = absurd cc
-never_ask false false false is = absurd cc
+never_ask : (topic h v : Bool) (own : List Word) → cond topic help_on (cond h help (cond v version usage_error)) ≡ ask own → ⊥
+never_ask true h v own is = absurd cc
+never_ask false true v own is = absurd cc
+never_ask false false true own is = absurd cc
+never_ask false false false own is = absurd cc
 
 no_ask : (program word name : Text) (words : List Text) → bytes_eq word name ≡ true → asks_question (Some name) ≡ false → named_is name program words
     → asks_question (subcommand_name (subcommand_of command_line (program ∷ word ∷ words))) ≡ false
@@ -251,7 +317,7 @@ no_ask program word name words same none named =
 
 first_asks : (program word : Text) (words : List Text) (is_batch is_check is_replay is_serve is_ask : Bool) → bytes_eq word (codes "batch") ≡ is_batch → bytes_eq word (codes "check") ≡ is_check
     → bytes_eq word (codes "replay") ≡ is_replay → bytes_eq word (codes "serve") ≡ is_serve → is_question word ≡ is_ask
-    → asks_question (subcommand_name (subcommand_of command_line (program ∷ word ∷ words))) ≡ true → invocation (word ∷ words) ≡ ask → is_question word ≡ true
+    → asks_question (subcommand_name (subcommand_of command_line (program ∷ word ∷ words))) ≡ true → invocation (word ∷ words) ≡ ask (word ∷ words) → is_question word ≡ true
 first_asks program word words true is_check is_replay is_serve is_ask b c r s q asks is =
     absurd (true≢false (sym asks ∙ no_ask program word (codes "batch") words b refl (ap subcommand_name (subcommand_found subcommand.Batch program words))))
 first_asks program word words false true is_replay is_serve is_ask b c r s q asks is =
@@ -262,9 +328,9 @@ first_asks program word words false false false true is_ask b c r s q asks is =
     absurd (true≢false (sym asks ∙ no_ask program word (codes "serve") words s refl (serve_named program words)))
 first_asks program word words false false false false true b c r s q asks is = q
 first_asks program word words false false false false false b c r s q asks is =
-    absurd (never_ask (bytes_eq word (codes "help")) (is_help word) (is_version word) (sym (no_subcommand word words b c r s q) ∙ is))
+    absurd (never_ask (bytes_eq word (codes "help")) (is_help word) (is_version word) (word ∷ words) (sym (no_subcommand word words b c r s q) ∙ is))
 
-first_word : (words : List Text) (name : Option Text) → subcommand_name (subcommand_of command_line words) ≡ name → asks_question name ≡ true → invocation (drop 1 words) ≡ ask → slice_get (drop 1 words) 0 ≡ name
+first_word : (words : List Text) (name : Option Text) → subcommand_name (subcommand_of command_line words) ≡ name → asks_question name ≡ true → invocation (drop 1 words) ≡ ask (drop 1 words) → slice_get (drop 1 words) 0 ≡ name
 first_word [] name named asks is = absurd cc
 first_word (program ∷ []) name named asks is = absurd cc
 first_word (program ∷ word ∷ words) name named asks is =
@@ -284,10 +350,17 @@ no_question_of words found (Replay file) is = tt
 no_question_of words found (Serve serving) is = tt
 no_question_of words found (Ask asked) is = absurd is
 
+pub no_reading : (words : List Text) (found : Option (Text × List Row)) (task : Task) → IsTaskOf found task → IsReadFrom words task
+no_reading words found (Batch script) is = tt
+no_reading words found (Check file) is = tt
+no_reading words found (Replay file) is = tt
+no_reading words found (Serve serving) is = absurd is
+no_reading words found (Ask asked) is = absurd is
+
 pub other_is : (words : List Text) (m : ArgMatches) (task : Task) → subcommand_rows_of m ≡ subcommand_of command_line words → fault_of command_line words ≡ []
-    → (subcommand_name_of m ≡ Some (codes "serve") → ⊥) → asks_question (subcommand_name_of m) ≡ false → IsTaskOf (subcommand_rows_of m) task → invocation (drop 1 words) ≡ invocation_of task
+    → (subcommand_name_of m ≡ Some (codes "serve") → ⊥) → asks_question (subcommand_name_of m) ≡ false → IsTaskOf (subcommand_rows_of m) task → invocation (drop 1 words) ≡ invocation_of (drop 1 words) task
 other_is words m task found none other no_ask is =
-    task_is (invocation (drop 1 words)) (fault_of command_line words) (subcommand_of command_line words) task (words_agree words) none
+    task_is (drop 1 words) (invocation (drop 1 words)) (fault_of command_line words) (subcommand_of command_line words) task (words_agree words) none
     (λ named. other (name_of_found (out-ArgMatches m).subcommand ∙ ap subcommand_name found ∙ named))
     (ap asks_question (sym (ap subcommand_name found) ∙ sym (name_of_found (out-ArgMatches m).subcommand)) ∙ no_ask) (subst (λ f. IsTaskOf f task) found is)
 
@@ -297,6 +370,12 @@ conflicting_is words m found none other no_ask is =
     conflict_is (invocation (drop 1 words)) (fault_of command_line words) (subcommand_of command_line words) (words_agree words) none
     (λ named. other (name_of_found (out-ArgMatches m).subcommand ∙ ap subcommand_name found ∙ named))
     (ap asks_question (sym (ap subcommand_name found) ∙ sym (name_of_found (out-ArgMatches m).subcommand)) ∙ no_ask) (subst IsConflict found is)
+
+-- bad words, or that memory was refused, is a fault of `serve` and of a question
+pub bad_words : (own : List Word) (fault : Fault) → IsWordsFault usage_error fault → IsWordsFault (serve own) fault × IsWordsFault (ask own) fault
+bad_words own (Words error) is = (inr is, inr is)
+bad_words own (Opening reason) is = (is, is)
+bad_words own Listener is = absurd is
 
 pub conflict_fault : {T : Type 0} (asked : Invocation) (result : Result T Fault) → IfErr result (λ fault. asked ≡ usage_error) → IfErr result (IsWordsFault usage_error) → IfErr result (IsWordsFault asked)
 conflict_fault asked (Ok task) same is = tt

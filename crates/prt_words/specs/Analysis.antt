@@ -5,7 +5,7 @@ use Rattle.clap.specs.declared.parser.matches.ArgMatches.{ArgMatches}
 use Rattle.prt_addr.specs.Word.{Word}
 use Rattle.prt_refusals.specs.declared.on_refusal.OnRefusal.{OnRefusal}
 use Rattle.prt_refusals.specs.declared.on_refusal.OnRefusal.TheVariants.{GoOn, Stop}
-use Rattle.prt_words.specs.CommandLine.{text_of_flag}
+use Rattle.prt_words.specs.Tasks.{text_of_flag}
 use Rattle.prt_words.specs.Invocation.{file_of}
 use Rattle.prt_words.specs.Reaching.{values_of}
 use Rattle.prt_words.specs.declared.analysis.Exactness.{Exactness}
@@ -16,15 +16,26 @@ use Rattle.prt_words.specs.declared.asking.Shown.{Shown}
 use Rattle.prt_words.specs.declared.asking.Shown.TheVariants as shown
 use Rattle.prt_words.specs.declared.asking.Source.{Source}
 use Rattle.prt_words.specs.declared.asking.Source.TheVariants.{Database, Script, Server}
+use Rattle.prt_words.specs.declared.server_place.ServerPlace.{ServerPlace}
+use Rattle.prt_words.specs.declared.server_place.ServerPlace.TheVariants.{Address, Folder}
 
 -- the value that the words have for an option, or for an operand
 abbrev pub value_of : ArgMatches → Word → Option Word
 value_of matches name = first_value (found_of matches) name
 
+-- the folder is the word; of an address nothing is said
+abbrev pub IsPlace : Word → ServerPlace → Type 0
+IsPlace word (Folder path) = path.now ≡ word
+IsPlace word (Address address) = Unit {0}
+
+-- the server is at the place that `--server` names
+abbrev pub IsServerBy : ArgMatches → ServerPlace → Type 0
+IsServerBy matches place = (word : Word) × (value_of matches (codes "server") ≡ Some word) × IsPlace word place
+
 -- `--db` or `--server`, and not both, names the tables
 abbrev pub IsNamed : ArgMatches → Source → Type 0
 IsNamed matches (Database path) = (value_of matches (codes "db") ≡ Some path.now) × (value_of matches (codes "server") ≡ None)
-IsNamed matches (Server place) = (value_of matches (codes "db") ≡ None) × (is_some (value_of matches (codes "server")) ≡ true)
+IsNamed matches (Server place) = (value_of matches (codes "db") ≡ None) × IsServerBy matches place
 IsNamed matches (Script script) = ⊥
 
 abbrev pub NoneIsNamed : ArgMatches → Type 0

@@ -1,18 +1,10 @@
--- The words that the program knows, as a parse reads them, and what it finds of its subcommands.
-use Rattle.std.specs.Prelude.{◌≡◌, ◌≢◌, ◌≤◌, Bool, true, false, List, [], ◌∷◌, Option, Some, None, codes, option_and_then, option_map, slice_get}
-use Rattle.std.specs.Option.{option_map_or}
-use Rattle.clap.specs.Words.{App, Row, Rule, Text, first_of, one_of, new_app, new_rule, with_rule, with_subcommand}
+-- The words that the program knows, as a parse reads them.
+use Rattle.std.specs.Prelude.{Bool, true, [], ◌∷◌, Some, codes}
+use Rattle.clap.specs.Words.{App, Rule, Text, new_app, new_rule, with_rule, with_subcommand}
 use Rattle.clap.specs.Simple.{on_top}
 use Rattle.clap.specs.declared.builder.action.ArgAction.TheVariants.{Append, SetTrue}
 use Rattle.clap.specs.declared.builder.command.Command.{Command}
 use Rattle.clap.specs.declared.builder.command.Command.TheViews.{out-Command}
-use Rattle.prt_words.specs.Asking.{name_of_asked}
-use Rattle.prt_words.specs.Invocation.{Invocation, ask, batch, check, file_of, is_question, mode_of, replay, serve}
-use Rattle.prt_words.specs.Reaching.{IsAsked}
-use Rattle.prt_words.specs.declared.serving.Serving.{Serving}
-use Rattle.prt_words.specs.declared.task.Task.{Task}
-use Rattle.prt_words.specs.declared.task.Task.TheVariants.{Ask, Batch, Check, Replay, Serve}
-use Rattle.prt_words.specs.declared.task.Mode.{Mode}
 
 abbrev pub flag_rule : Text → Rule
 flag_rule name = record (new_rule name) { long = Some name; action = Some SetTrue }
@@ -142,83 +134,3 @@ command_line = with_services (with_analyses (with_questions (with_subcommand (wi
 -- whether an argument of the command is one of its subcommands too
 abbrev pub has_globals : Command → Bool
 has_globals command = (out-Command command).has_globals
-
--- the name of the subcommand, the values of FILE and of `--db`, and the text of a flag
-abbrev pub subcommand_name : Option (Text × List Row) → Option Text
-subcommand_name = option_map (λ p. p.0)
-
-abbrev pub named_file : Option (Text × List Row) → Option Text
-named_file = option_and_then (λ p. first_of (codes "file") p.1)
-
-abbrev pub named_database : Option (Text × List Row) → Option Text
-named_database = option_and_then (λ p. first_of (codes "db") p.1)
-
-abbrev pub flag_text : Text → Option (Text × List Row) → Option Text
-flag_text name = option_and_then (λ p. one_of name p.1)
-
-abbrev pub text_of_flag : Bool → Text
-text_of_flag true = codes "true"
-text_of_flag false = codes "false"
-
--- how a script's lines are executed by what a parse has for `--force` and `--atomic`; no way for both
-abbrev pub IsModeBy : (force atomic : Option Text) → Option Mode → Type 0
-IsModeBy force atomic mode = (forced together : Bool) → force ≡ Some (text_of_flag forced) → atomic ≡ Some (text_of_flag together) → mode ≡ mode_of forced together
-
--- how those of the script that a parse found are executed
-abbrev pub IsModeOf : Option (Text × List Row) → Option Mode → Type 0
-IsModeOf found = IsModeBy (flag_text (codes "force") found) (flag_text (codes "atomic") found)
-
--- the parse found a script whose lines can't be executed as its words ask
-abbrev pub IsConflict : Option (Text × List Row) → Type 0
-IsConflict found = (subcommand_name found ≢ Some (codes "check")) × (subcommand_name found ≢ Some (codes "replay")) × IsModeOf found None
-
--- the subcommand of this name asks a question
-abbrev pub asks_question : Option Text → Bool
-asks_question name = option_map_or is_question name false
-
--- the task is that of the subcommand that a parse found, other than `serve` and a question
-abbrev pub IsTaskOf : Option (Text × List Row) → Task → Type 0
-IsTaskOf found (Batch script) =
-    (subcommand_name found ≢ Some (codes "check"))
-    × (subcommand_name found ≢ Some (codes "replay"))
-    × (option_map (λ path. path.now) script.file ≡ option_and_then file_of (named_file found))
-    × (option_map (λ path. path.now) script.database ≡ named_database found)
-    × IsModeOf found (Some script.mode)
-    × (flag_text (codes "verbose") found ≡ Some (codes "true") → script.is_verbose ≡ true)
-    × (flag_text (codes "verbose") found ≡ Some (codes "false") → script.is_verbose ≡ false)
-IsTaskOf found (Check file) =
-    (subcommand_name found ≡ Some (codes "check"))
-    × (option_map (λ path. path.now) file ≡ option_and_then file_of (named_file found))
-IsTaskOf found (Replay file) =
-    (subcommand_name found ≡ Some (codes "replay"))
-    × (option_map (λ path. path.now) file ≡ option_and_then file_of (named_file found))
-IsTaskOf found (Serve serving) = ⊥
-IsTaskOf found (Ask asked) = ⊥
-
--- what a task was asked for by
-abbrev pub invocation_of : Task → Invocation
-invocation_of (Batch script) = batch (record {
-  mode = script.mode;
-  verbose = script.is_verbose;
-  database = option_map (λ path. path.now) script.database;
-  file = option_map (λ path. path.now) script.file;
-})
-invocation_of (Check file) = check (option_map (λ path. path.now) file)
-invocation_of (Replay file) = replay (option_map (λ path. path.now) file)
-invocation_of (Serve serving) = serve
-invocation_of (Ask asked) = ask
-
--- a question is that of the first word
-abbrev pub IsQuestionOf : List Text → Task → Type 0
-IsQuestionOf words (Ask asked) = slice_get words 0 ≡ Some (name_of_asked asked)
-IsQuestionOf words task = Unit {0}
-
--- 1 to 64 workers, at most 1,000,000 sessions, and at most as many seconds without a byte
-abbrev pub IsServing : Serving → Type 0
-IsServing serving = (1 ≤ serving.workers) × (serving.workers ≤ 64) × (serving.sessions ≤ 1000000) × (serving.idle ≤ 1000000)
-
--- what is to be served or queried is within these limits
-abbrev pub IsWithinLimits : Task → Type 0
-IsWithinLimits (Serve serving) = IsServing serving
-IsWithinLimits (Ask asked) = IsAsked asked
-IsWithinLimits task = Unit {0}

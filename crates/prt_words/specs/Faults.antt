@@ -1,11 +1,12 @@
 -- The exit status if nothing is run.
-use Rattle.std.specs.Prelude.{◌≡◌, ◌≢◌, ◌⊎◌, ℕ}
+use Rattle.std.specs.Prelude.{◌≡◌, ◌≢◌, ◌⊎◌, ℕ, List, true}
 use Rattle.clap.specs.Words.{kind_of}
 use Rattle.clap.specs.declared.error.Error.{Error}
 use Rattle.clap.specs.declared.error.kind.ErrorKind.{ErrorKind}
 use Rattle.clap.specs.declared.error.kind.ErrorKind.TheVariants.{DisplayHelp, DisplayVersion, OutOfMemory}
+use Rattle.prt_addr.specs.Word.{Word}
 use Rattle.prt_refusals.specs.declared.refusal.Refusal.TheVariants.{NoMemory}
-use Rattle.prt_words.specs.Invocation.{Invocation, ask, batch, check, replay, serve, help, help_on, version, usage_error}
+use Rattle.prt_words.specs.Invocation.{Invocation, ask, batch, check, has_help, replay, serve, help, help_on, version, usage_error}
 use Rattle.prt_words.specs.declared.fault.Fault.{Fault}
 use Rattle.prt_words.specs.declared.fault.Fault.TheVariants.{Words, Opening, Listener}
 
@@ -25,13 +26,17 @@ fault_status (Words error) = words_status (kind_of error)
 fault_status (Opening reason) = 3
 fault_status Listener = 3
 
+-- 0 only if some word asks for help
+abbrev pub IsHelpOrBad : List Word → ℕ → Type 0
+IsHelpOrBad words status = ((has_help words ≡ true) × (status ≡ 0)) ⊎ (status ≡ 2)
+
 -- the status of words that ask for no run
 abbrev pub IsStatusOf : Invocation → ℕ → Type 0
 IsStatusOf (batch script) status = ⊥
 IsStatusOf (check file) status = ⊥
 IsStatusOf (replay file) status = ⊥
-IsStatusOf serve status = (status ≡ 0) ⊎ (status ≡ 2)
-IsStatusOf ask status = (status ≡ 0) ⊎ (status ≡ 2)
+IsStatusOf (serve words) status = IsHelpOrBad words status
+IsStatusOf (ask words) status = IsHelpOrBad words status
 IsStatusOf help status = status ≡ 0
 IsStatusOf version status = status ≡ 0
 IsStatusOf help_on status = (status ≡ 0) ⊎ (status ≡ 2)

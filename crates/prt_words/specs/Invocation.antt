@@ -1,7 +1,7 @@
 -- What the words after the program's name ask for: `batch [--force | --atomic] [--db PATH] [--verbose] [FILE]`, `check [FILE]`, `replay [FILE]`, `serve` and `dump` with their options, the version, or help.
 -- Options and operands are distinguished as POSIX.1 does (Base Definitions, section 12.2, guidelines 4, 10 and 13), but options may follow operands, and `--db=PATH` is `--db PATH`.
 use Rattle.std.specs.Prelude.{ℕ, ◌==◌, ◌||◌, Bool, true, false, List, [], ◌∷◌, Option, Some, None, is_some, if◌then◌else◌, map, drop, codes, option_and_then, slice_get, chars, bytes_eq, String, string_bytes}
-use Rattle.std.specs.List.{before_first, after_first}
+use Rattle.std.specs.List.{before_first, after_first, list_any}
 use Rattle.std.specs.Option.{option_map_or}
 use Rattle.prt_addr.specs.Word.{Word}
 use Rattle.prt_refusals.specs.declared.on_refusal.OnRefusal.TheVariants.{Stop, GoOn}
@@ -24,10 +24,10 @@ pub data Invocation : Type 0 where
   check : Option Word → Invocation
   -- a replay of the file of this path, or of the input
   replay : Option Word → Invocation
-  -- the word `serve`: sessions over TCP, help on that, or bad words
-  serve : Invocation
-  -- the word of a question: what tables say, what differs from them or is imported, whether a server answers, what an analysis finds, what a server does, or what tables are made, help on that, or bad words
-  ask : Invocation
+  -- the word `serve` and those after it: sessions over TCP, help on that, or bad words
+  serve : List Word → Invocation
+  -- the word of a question and those after it: what tables say, what differs from them or is imported, whether a server answers, what an analysis finds, what a server does, or what tables are made, help on that, or bad words
+  ask : List Word → Invocation
   help : Invocation
   -- the version, and the formats of database file that are read
   version : Invocation
@@ -53,6 +53,10 @@ is_delimiter word = bytes_eq word (codes "--")
 -- `--help`, or `-h` and what begins so
 abbrev pub is_help : Word → Bool
 is_help word = bytes_eq word (codes "--help") || option_map_or (λ letter. letter == 104) (option_letter word) false
+
+-- some word asks for help
+abbrev pub has_help : List Word → Bool
+has_help = list_any is_help
 
 -- `--version`, or `-V` and what begins so
 abbrev pub is_version : Word → Bool
@@ -220,8 +224,8 @@ invocation (word ∷ words) =
     if bytes_eq word (codes "batch") then asked_by Batch words anywhere nothing_given
     else (if bytes_eq word (codes "check") then asked_by Check words anywhere nothing_given
     else (if bytes_eq word (codes "replay") then asked_by Replay words anywhere nothing_given
-    else (if bytes_eq word (codes "serve") then serve
-    else (if is_question word then ask
+    else (if bytes_eq word (codes "serve") then serve (word ∷ words)
+    else (if is_question word then ask (word ∷ words)
     else (if bytes_eq word (codes "help") then help_on
     else (if is_help word then help
     else (if is_version word then version else usage_error)))))))

@@ -4,4 +4,6 @@ pub mod CommandLine
 pub mod Faults
 pub mod Invocation
 pub mod Reaching
+pub mod Read
 pub mod Services
+pub mod Tasks

@@ -3,7 +3,7 @@ use Rattle.std.specs.Prelude.{◌≡◌, Bool, true, false, Option, None, Some, 
 use Rattle.clap.specs.Matches.{found_of, one_text}
 use Rattle.clap.specs.declared.parser.matches.ArgMatches.{ArgMatches}
 use Rattle.prt_words.specs.Analysis.{IsNamed}
-use Rattle.prt_words.specs.CommandLine.{text_of_flag}
+use Rattle.prt_words.specs.Tasks.{text_of_flag}
 use Rattle.prt_words.specs.declared.asking.Source.TheVariants as sources
 use Rattle.prt_words.specs.declared.service.StatusForm.{StatusForm}
 use Rattle.prt_words.specs.declared.service.StatusForm.TheVariants.{Json, Lines, Metrics}

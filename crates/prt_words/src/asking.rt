@@ -1,13 +1,15 @@
 //! What the words of a question ask for: those of `get`, `show`, `explain`, `dump`, `diff`, `follow`, `wait`, `import`,
 //! `impact`, `assert`, `unused`, `apply` and `status`.
-ghost use Rattle.std.specs.Prelude.{◌≡◌, ◌||◌, IfErr, IfOk, IfSome, MatchOption, None, Some, codes, is_some, true};
-ghost use Rattle.clap.specs.Words.{subcommand_name_of};
+ghost use Rattle.std.specs.Prelude.{◌≡◌, ◌||◌, ◌++◌, IfErr, IfOk, IfSome, MatchOption, None, Some, codes, is_some, map, option_map, true};
+ghost use Rattle.clap.specs.Words.{found_of, rows_of, subcommand_name_of, subcommand_rows_of};
+ghost use Rattle.clap.specs.declared.parser.matches.ArgMatches.{ArgMatches};
 ghost use Rattle.prt_words.specs.Analysis.{IsFlag, IsNamed, IsShownBy, NoneIsNamed, form_of};
 ghost use Rattle.prt_words.specs.Asking.{name_of_asked, name_of_verb, name_of_word};
-ghost use Rattle.prt_words.specs.CommandLine.{asks_question};
+ghost use Rattle.prt_words.specs.Tasks.{asks_question};
 ghost use Rattle.prt_words.specs.Faults.{IsWordsFault};
-ghost use Rattle.prt_words.specs.Invocation.{ask, is_analysis, is_service};
-ghost use Rattle.prt_words.specs.Reaching.{IsAsked, IsReach};
+ghost use Rattle.prt_words.specs.Invocation.{is_analysis, is_service, usage_error};
+ghost use Rattle.prt_words.specs.Read.{IsAskedBy, IsAskingBy, IsFileBy, IsSourceBy, IsVerbBy, labels_of, line_of, spaced};
+ghost use Rattle.prt_words.specs.Reaching.{IsAsked, IsReach, IsReachBy};
 
 use crate::analysis::{Asserting, Rehearsing, asserting_of, rehearsing_of, searched_of};
 use crate::fault::{BadQuestion, Fault, asking_fault};
@@ -271,7 +273,9 @@ fn question_word(name: &str) -> Option<QuestionWord>
 }
 
 /// Chooses the words that begin the line of a question, and those of the given ones that follow.
-fn opening_of<'b, 'a>(verb: Verb, words: &'b [&'a str]) -> (&'static str, &'b [&'a str]) {
+fn opening_of<'b, 'a>(verb: Verb, words: &'b [&'a str]) -> (&'static str, &'b [&'a str])
+    ensures { result.0.now ++ spaced (map (λ word. word.now) result.1.now) ≡ line_of verb (map (λ word. word.now) words.now) }
+{
     let Verb::Show = verb else {
         return ("route get", words);
     };
@@ -283,7 +287,9 @@ fn opening_of<'b, 'a>(verb: Verb, words: &'b [&'a str]) -> (&'static str, &'b [&
 }
 
 /// Makes the line that asks a question.
-fn line_of(alloc: Global, verb: Verb, words: &[&str]) -> Result<Vec<u8>, AllocError> {
+fn line_of(alloc: Global, verb: Verb, words: &[&str]) -> Result<Vec<u8>, AllocError>
+    ensures { IfOk result (λ line. line.items ≡ line_of verb (map (λ word. word.now) words.now)) }
+{
     let (opening, rest) = opening_of(verb, words);
     let mut line = Vec::from_slice(alloc, opening.as_bytes())?;
     for word in rest {
@@ -317,7 +323,9 @@ pub(crate) fn named_source<'a>(matches: &ArgMatches<'a>) -> Result<Option<Source
 /// # Errors
 ///
 /// They name none or two, or a place that is none.
-fn source_in<'a>(matches: &ArgMatches<'a>) -> Result<Source<'a>, BadQuestion> {
+fn source_in<'a>(matches: &ArgMatches<'a>) -> Result<Source<'a>, BadQuestion>
+    ensures { IfOk result (IsNamed matches.now) }
+{
     match named_source(matches)? {
         Some(source) => Ok(source),
         None => Err(BadQuestion::Words(NO_TABLES)),
@@ -334,7 +342,9 @@ fn source_and_words<'b, 'a>(
     verb: Verb,
     matches: &ArgMatches<'a>,
     words: &'b [&'a str],
-) -> Result<(Source<'a>, &'b [&'a str]), BadQuestion> {
+) -> Result<(Source<'a>, &'b [&'a str]), BadQuestion>
+    ensures { IfOk result (λ named. IsSourceBy matches.now (map (λ word. word.now) words.now) named.0 (map (λ word. word.now) named.1.now)) }
+{
     match (named_source(matches)?, verb, words.split_first()) {
         (Some(source), _, _) => Ok((source, words)),
         (None, Verb::Explain, Some((file, rest))) => Ok((Source::Script(file_of(file)), rest)),
@@ -354,11 +364,15 @@ fn needs_words(verb: Verb) -> bool {
 ///
 /// They do, and the answer is to be in JSON, or to call tables by names.
 fn verb_in(verb: Verb, matches: &ArgMatches<'_>) -> Result<Verb, BadQuestion>
-    ensures { IfOk result (λ meant. name_of_verb meant ≡ name_of_verb verb) }
+    ensures name { IfOk result (λ meant. name_of_verb meant ≡ name_of_verb verb) }
+    ensures replaces { IfOk result (IsVerbBy matches.now) }
 {
-    let is_dump = matches!(verb, Verb::Dump);
-    if !is_dump || !matches.get_flag("replace") {
+    let is_dump = matches!(verb, Verb::Dump | Verb::Replace);
+    if !is_dump {
         return Ok(verb);
+    }
+    if !matches.get_flag("replace") {
+        return Ok(Verb::Dump);
     }
     if matches.get_flag("json") || matches.get_flag("names") {
         return Err(BadQuestion::Words(REPLACE_CONFLICT));
@@ -377,6 +391,17 @@ pub(crate) fn form_in(matches: &ArgMatches<'_>) -> Form
     }
 }
 
+/// Finds how an answer is to call tables.
+fn labels_in(matches: &ArgMatches<'_>) -> Labels
+    ensures { IsFlag matches.now (codes "names") labels_of result }
+{
+    if matches.get_flag("names") {
+        Labels::Names
+    } else {
+        Labels::Numbers
+    }
+}
+
 /// Reads what the matches of a question to tables ask for.
 ///
 /// # Errors
@@ -387,25 +412,22 @@ fn asking_of<'a>(
     verb: Verb,
     matches: &ArgMatches<'a>,
 ) -> Result<Asking<'a>, BadQuestion>
-    ensures { IfOk result (λ asking. name_of_verb asking.verb ≡ name_of_verb verb) }
+    ensures name { IfOk result (λ asking. name_of_verb asking.verb ≡ name_of_verb verb) }
+    ensures reads { IfOk result (IsAskingBy matches.now) }
 {
     let given = matches.get_strs("words").unwrap_or(&[]);
     let (source, words) = source_and_words(verb, matches, given)?;
     if words.is_empty() && needs_words(verb) {
         return Err(BadQuestion::Words(NO_ADDRESS));
     }
-    let labels = if matches.get_flag("names") {
-        Labels::Names
-    } else {
-        Labels::Numbers
-    };
+    let verb = verb_in(verb, matches)?;
     let line = line_of(alloc, verb, words)?;
     Ok(Asking {
         source,
-        verb: verb_in(verb, matches)?,
+        verb,
         line,
         form: form_in(matches),
-        labels,
+        labels: labels_in(matches),
     })
 }
 
@@ -433,6 +455,9 @@ fn shown_in(matches: &ArgMatches<'_>) -> Result<Shown, BadQuestion>
 /// What is wrong with them, or that memory is refused.
 fn diffing_of<'a>(alloc: Global, matches: &ArgMatches<'a>) -> Result<Diffing<'a>, BadQuestion>
     ensures limits { IfOk result (λ diffing. IsReach diffing.reach) }
+    ensures source { IfOk result (λ diffing. IsNamed matches.now diffing.source) }
+    ensures reach { IfOk result (λ diffing. IsReachBy matches.now diffing.reach) }
+    ensures file { IfOk result (λ diffing. IsFileBy matches.now (option_map (λ path. path.now) diffing.file)) }
     ensures shown { IfOk result (λ diffing. IsShownBy matches.now (Some diffing.shown)) }
 {
     let source = source_in(matches)?;
@@ -458,6 +483,7 @@ fn asked_of<'a>(
 ) -> Result<Asked<'a>, BadQuestion>
     ensures limits { IfOk result IsAsked }
     ensures word { IfOk result (λ asked. name_of_asked asked ≡ name_of_word word) }
+    ensures reads { IfOk result (IsAskedBy matches.now) }
 {
     match word {
         QuestionWord::Tables(verb) => Ok(Asked::Tables(asking_of(alloc, verb, matches)?)),
@@ -488,8 +514,9 @@ pub(crate) fn asked_in<'a>(
 ) -> Result<Option<Asked<'a>>, Fault>
     ensures asked { IfOk result (λ asked. is_some asked ≡ asks_question (subcommand_name_of matches.now)) }
     ensures word { IfOk result (λ asked. IfSome asked (λ asked. subcommand_name_of matches.now ≡ Some (name_of_asked asked))) }
+    ensures reads { IfOk result (λ asked. IfSome asked (λ asked. (found : ArgMatches) × (subcommand_rows_of matches.now ≡ Some (name_of_asked asked, rows_of (found_of found))) × IsAskedBy found asked)) }
     ensures limits { IfOk result (λ asked. IfSome asked IsAsked) }
-    ensures fault { IfErr result (λ fault. (asks_question (subcommand_name_of matches.now) ≡ true) × IsWordsFault ask fault) }
+    ensures fault { IfErr result (λ fault. (asks_question (subcommand_name_of matches.now) ≡ true) × IsWordsFault usage_error fault) }
 {
     let Some((name, found)) = matches.subcommand() else {
         return Ok(None);

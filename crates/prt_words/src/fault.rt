@@ -3,7 +3,7 @@ ghost use Rattle.std.specs.Prelude.{◌≡◌, ◌≢◌, IfOk};
 ghost use Rattle.clap.specs.Words.{kind_of};
 ghost use Rattle.prt_refusals.specs.declared.refusal.Refusal.TheVariants.{NoMemory};
 ghost use Rattle.prt_words.specs.Faults.{FaultOf, IsWordsFault, fault_status};
-ghost use Rattle.prt_words.specs.Invocation.{ask, serve, usage_error};
+ghost use Rattle.prt_words.specs.Invocation.{usage_error};
 ghost use Rattle.prt_words.specs.declared.fault.Fault.TheVariants.{Opening};
 
 use crate::analysis_lines::{assert_line, impact_line, unused_line};
@@ -127,7 +127,7 @@ fn serving_error(alloc: Global, text: &str) -> Result<clap::Error, AllocError>
 
 /// Builds the fault of what is wrong with the words of `serve`, in this text.
 pub(crate) fn serving_fault(alloc: Global, text: &str) -> Fault
-    ensures { IsWordsFault serve result }
+    ensures { IsWordsFault usage_error result }
 {
     match serving_error(alloc, text) {
         Ok(error) => Fault::Words(error),
@@ -182,7 +182,7 @@ fn asking_error(alloc: Global, word: QuestionWord, text: &str) -> Result<clap::E
 
 /// Builds the fault of what is wrong with the words of a question, in this text.
 pub(crate) fn asking_fault(alloc: Global, word: QuestionWord, text: &str) -> Fault
-    ensures { IsWordsFault ask result }
+    ensures { IsWordsFault usage_error result }
 {
     match asking_error(alloc, word, text) {
         Ok(error) => Fault::Words(error),

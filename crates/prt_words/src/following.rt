@@ -1,6 +1,8 @@
 //! What the words of `follow` and `wait` ask for: what brings the kernel to the tables of a server, and the server itself.
-ghost use Rattle.std.specs.Prelude.{◌≤◌, IfOk};
-ghost use Rattle.prt_words.specs.Reaching.{IsReach};
+ghost use Rattle.std.specs.Prelude.{◌≤◌, IfOk, codes, option_map};
+ghost use Rattle.prt_words.specs.Analysis.{IsFlag, IsServerBy};
+ghost use Rattle.prt_words.specs.Read.{IsFileBy};
+ghost use Rattle.prt_words.specs.Reaching.{IsReach, IsReachBy};
 
 use crate::fault::BadQuestion;
 use crate::reach::{Reach, reach_of};
@@ -44,8 +46,13 @@ pub struct Waiting<'a> {
 /// # Errors
 ///
 /// It is none.
-pub(crate) fn server_in<'a>(matches: &ArgMatches<'a>) -> Result<ServerPlace<'a>, BadQuestion> {
-    match matches.get_str("server").and_then(server_place_of) {
+pub(crate) fn server_in<'a>(matches: &ArgMatches<'a>) -> Result<ServerPlace<'a>, BadQuestion>
+    ensures { IfOk result (IsServerBy matches.now) }
+{
+    let Some(word) = matches.get_str("server") else {
+        return Err(BadQuestion::Words(BAD_SERVER));
+    };
+    match server_place_of(word) {
         Some(place) => Ok(place),
         None => Err(BadQuestion::Words(BAD_SERVER)),
     }
@@ -60,7 +67,11 @@ pub(crate) fn following_of<'a>(
     alloc: Global,
     matches: &ArgMatches<'a>,
 ) -> Result<Following<'a>, BadQuestion>
-    ensures { IfOk result (λ following. IsReach following.reach) }
+    ensures limits { IfOk result (λ following. IsReach following.reach) }
+    ensures server { IfOk result (λ following. IsServerBy matches.now following.server) }
+    ensures reach { IfOk result (λ following. IsReachBy matches.now following.reach) }
+    ensures file { IfOk result (λ following. IsFileBy matches.now (option_map (λ path. path.now) following.file)) }
+    ensures once { IfOk result (λ following. IsFlag matches.now (codes "once") (λ given. given) following.is_once) }
 {
     let server = server_in(matches)?;
     let reach = reach_of(alloc, matches)?;
@@ -78,7 +89,8 @@ pub(crate) fn following_of<'a>(
 ///
 /// What is wrong with them.
 pub(crate) fn waiting_of<'a>(matches: &ArgMatches<'a>) -> Result<Waiting<'a>, BadQuestion>
-    ensures { IfOk result (λ waiting. waiting.seconds ≤ 1000000) }
+    ensures limits { IfOk result (λ waiting. waiting.seconds ≤ 1000000) }
+    ensures server { IfOk result (λ waiting. IsServerBy matches.now waiting.server) }
 {
     let server = server_in(matches)?;
     let Some(seconds) = number_in(matches, "seconds", 0, 1_000_000) else {

@@ -1,4 +1,6 @@
 //! Where a server is.
+ghost use Rattle.std.specs.Prelude.{IfSome};
+ghost use Rattle.prt_words.specs.Analysis.{IsPlace};
 
 use crate::serving::place_of;
 use std::fmt::{self, Display, Formatter};
@@ -23,7 +25,9 @@ impl<'a> Display for ServerPlace<'a> {
 }
 
 /// Reads where a server is: a word with a `/` is the path of a folder, any other one is `ADDR:PORT`.
-pub(crate) fn server_place_of(word: &str) -> Option<ServerPlace<'_>> {
+pub(crate) fn server_place_of(word: &str) -> Option<ServerPlace<'_>>
+    ensures { IfSome result (IsPlace word.now) }
+{
     if word.contains('/') {
         return Some(ServerPlace::Folder(word));
     }

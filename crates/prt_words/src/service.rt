@@ -1,8 +1,9 @@
 //! What the words of `apply` and `status` ask for: which tables are made, and how a server does.
-ghost use Rattle.std.specs.Prelude.{◌≡◌, IfErr, IfOk, None, Some, codes, option_and_then, option_map};
-ghost use Rattle.prt_words.specs.Analysis.{IsFlag, value_of};
-ghost use Rattle.prt_words.specs.Invocation.{file_of};
+ghost use Rattle.std.specs.Prelude.{IfErr, IfOk, None, Some, codes, option_map};
+ghost use Rattle.prt_words.specs.Analysis.{IsFlag, IsServerBy};
+ghost use Rattle.prt_words.specs.Read.{IsFileBy};
 ghost use Rattle.prt_words.specs.Services.{IsStatusFormBy, IsTarget};
+ghost use Rattle.prt_words.specs.declared.server_place.ServerPlace.TheVariants.{Folder};
 
 use crate::asking::{NO_TABLES, Source, named_source};
 use crate::fault::BadQuestion;
@@ -128,7 +129,7 @@ fn target_in<'a>(matches: &ArgMatches<'a>, is_dry_run: bool) -> Result<Target<'a
 /// They name no tables, two, a place that is none, or no place that takes the changes.
 pub(crate) fn applying_of<'a>(matches: &ArgMatches<'a>) -> Result<Applying<'a>, BadQuestion>
     ensures target { IfOk result (λ applying. IsTarget matches.now applying.target) }
-    ensures file { IfOk result (λ applying. option_map (λ path. path.now) applying.file ≡ option_and_then file_of (value_of matches.now (codes "file"))) }
+    ensures file { IfOk result (λ applying. IsFileBy matches.now (option_map (λ path. path.now) applying.file)) }
     ensures dry_run { IfOk result (λ applying. IsFlag matches.now (codes "dry-run") (λ given. given) applying.is_dry_run) }
     ensures impact { IfOk result (λ applying. IsFlag matches.now (codes "impact") (λ given. given) applying.has_impact) }
 {
@@ -164,7 +165,8 @@ fn status_form_in(matches: &ArgMatches<'_>) -> Result<StatusForm, BadQuestion>
 ///
 /// What is wrong with them.
 pub(crate) fn inspecting_of<'a>(matches: &ArgMatches<'a>) -> Result<Inspecting<'a>, BadQuestion>
-    ensures { IfOk result (λ inspecting. IsStatusFormBy matches.now (Some inspecting.form)) }
+    ensures server { IfOk result (λ inspecting. IsServerBy matches.now (Folder inspecting.folder)) }
+    ensures form { IfOk result (λ inspecting. IsStatusFormBy matches.now (Some inspecting.form)) }
 {
     let ServerPlace::Folder(folder) = server_in(matches)? else {
         return Err(BadQuestion::Words(NO_FOLDER));

@@ -1,8 +1,9 @@
 //! What the words of `serve` ask for.
 ghost use Rattle.std.specs.Prelude.{◌≤◌, IfErr, IfOk, IfSome};
-ghost use Rattle.prt_words.specs.CommandLine.{IsServing};
+ghost use Rattle.prt_words.specs.Read.{IsServedBy};
+ghost use Rattle.prt_words.specs.Tasks.{IsServing};
 ghost use Rattle.prt_words.specs.Faults.{IsWordsFault};
-ghost use Rattle.prt_words.specs.Invocation.{serve};
+ghost use Rattle.prt_words.specs.Invocation.{usage_error};
 
 use crate::fault::{Fault, serving_fault};
 use clap::ArgMatches;
@@ -103,7 +104,7 @@ fn place_in(
     name: &str,
     wrong: &str,
 ) -> Result<Option<SocketAddrV4>, Fault>
-    ensures { IfErr result (IsWordsFault serve) }
+    ensures { IfErr result (IsWordsFault usage_error) }
 {
     let Some(word) = matches.get_str(name) else {
         return Ok(None);
@@ -130,7 +131,7 @@ struct Limits {
 fn limits_in(alloc: Global, matches: &ArgMatches<'_>) -> Result<Limits, Fault>
     ensures workers { IfOk result (λ limits. (1 ≤ limits.workers) × (limits.workers ≤ 64)) }
     ensures others { IfOk result (λ limits. (limits.sessions ≤ 1000000) × (limits.idle ≤ 1000000)) }
-    ensures fault { IfErr result (IsWordsFault serve) }
+    ensures fault { IfErr result (IsWordsFault usage_error) }
 {
     let Some(workers) = number_in(matches, "workers", 1, 64) else {
         return Err(serving_fault(alloc, BAD_WORKERS));
@@ -155,7 +156,8 @@ fn limits_in(alloc: Global, matches: &ArgMatches<'_>) -> Result<Limits, Fault>
 /// `Words` if a value is none that its option may have, `Opening` with `NoMemory` if memory is refused.
 pub(crate) fn serving_of<'a>(alloc: Global, matches: &ArgMatches<'a>) -> Result<Serving<'a>, Fault>
     ensures limits { IfOk result IsServing }
-    ensures fault { IfErr result (IsWordsFault serve) }
+    ensures reads { IfOk result (IsServedBy matches.now) }
+    ensures fault { IfErr result (IsWordsFault usage_error) }
 {
     let Some(database) = matches.get_str("db") else {
         return Err(serving_fault(alloc, NO_DATABASE));

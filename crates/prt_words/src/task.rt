@@ -1,7 +1,8 @@
 //! What the words of the program ask for.
 ghost use Rattle.std.specs.Prelude.{◌≡◌, IfErr, IfOk, None, Some, codes, false, option_and_then, option_map, true};
 ghost use Rattle.clap.specs.Words.{first_of, found_of, one_of, rows_of, subcommand_rows_of};
-ghost use Rattle.prt_words.specs.CommandLine.{IsConflict, IsModeBy, IsQuestionOf, IsTaskOf, IsWithinLimits, invocation_of};
+ghost use Rattle.prt_words.specs.Read.{IsFileBy, IsReadFrom};
+ghost use Rattle.prt_words.specs.Tasks.{IsConflict, IsModeBy, IsQuestionOf, IsTaskOf, IsWithinLimits, invocation_of};
 ghost use Rattle.prt_words.specs.Faults.{IsWordsFault};
 ghost use Rattle.prt_words.specs.Invocation.{arguments, file_of, invocation, usage_error};
 
@@ -75,7 +76,8 @@ pub(crate) fn file_of(operand: &str) -> Option<&str>
 
 /// Returns the path of the file that the matches of a subcommand name.
 pub(crate) fn file_in<'a>(matches: &ArgMatches<'a>) -> Option<&'a str>
-    ensures { option_map (λ path. path.now) result ≡ option_and_then file_of (first_of (codes "file") (rows_of (found_of matches.now))) }
+    ensures rows { option_map (λ path. path.now) result ≡ option_and_then file_of (first_of (codes "file") (rows_of (found_of matches.now))) }
+    ensures value { IsFileBy matches.now (option_map (λ path. path.now) result) }
 {
     matches.get_str("file").and_then(file_of)
 }
@@ -159,8 +161,9 @@ fn task_of<'a>(alloc: Global, matches: &ArgMatches<'a>) -> Result<Task<'a>, Faul
 /// `Words` if they ask for help, for the version or for nothing that exists; if a value of `serve` or of a question is none
 /// that it may have; or if a script is to go on and to be executed together. `Opening` with `NoMemory` if memory is refused.
 pub fn read_words<'a>(alloc: Global, words: &'a [String]) -> Result<Task<'a>, Fault>
-    ensures task { IfOk result (λ task. invocation (arguments words.entry.now) ≡ invocation_of task) }
+    ensures task { IfOk result (λ task. invocation (arguments words.entry.now) ≡ invocation_of (arguments words.entry.now) task) }
     ensures question { IfOk result (IsQuestionOf (arguments words.entry.now)) }
+    ensures reads { IfOk result (IsReadFrom (arguments words.entry.now)) }
     ensures limits { IfOk result IsWithinLimits }
     ensures fault { IfErr result (IsWordsFault (invocation (arguments words.entry.now))) }
 {

@@ -2,8 +2,8 @@
 
 use super::desks::{run, run_together};
 use prt_desk::StoreDesk;
-use prt_fault_disks::FailOnce;
 use prt_session::{Refusal, ScriptEnd};
+use prt_store::faults::FailOnce;
 use sqlite::{Connection, Error, FileStore, Files, Options};
 use sqlite_disk::{Disk, Fuse, Memory};
 use std::alloc::Global;

@@ -82,7 +82,7 @@ fn two_commands() -> Script<'static> {
 }
 
 /// Finds the place of a text among others.
-fn place_of(texts: &[&str], text: &[u8]) -> Option<usize> {
+pub fn place_of(texts: &[&str], text: &[u8]) -> Option<usize> {
     texts.iter().position(|other| other.as_bytes() == text)
 }
 

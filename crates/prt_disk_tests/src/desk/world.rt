@@ -8,7 +8,7 @@ use std::alloc::Global;
 use std::test::Fail;
 
 /// The five commands of the script that are accepted.
-const COMMANDS: [&str; 5] = [
+pub const COMMANDS: [&str; 5] = [
     "route replace 10/8 via 192.0.2.1",
     "route change blackhole 10/8",
     "rule add priority 5 from 10/8 table 100",

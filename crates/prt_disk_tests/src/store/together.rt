@@ -4,14 +4,15 @@ ghost use Rattle.std.specs.Prelude.{All, IfOk};
 ghost use Rattle.prt_command.specs.Storable.{IsStorable};
 
 use super::database::{Contents, OPENING_RULES, spells};
+use super::faulty::{Faulty, OPTIONS, calls_made, closed, copies, new_files};
 use super::steps::OPENING;
 use prt_command::{Command, Request, read_line};
-use prt_fault_disks::FailOnce;
 use prt_refusals::StoreCall;
 use prt_store::Store;
+use prt_store::faults::FailOnce;
 use prt_version::Refusal;
-use sqlite::{Alter, Connection, FileStore, Files, Options};
-use sqlite_disk::{Disk, Memory};
+use sqlite::{Alter, Connection, Files};
+use sqlite_disk::Disk;
 use std::alloc::Global;
 use std::io;
 use std::test::Fail;
@@ -26,17 +27,6 @@ const AFTER: Contents = Contents {
     rules: OPENING_RULES,
     routes: "end 0\n",
 };
-
-/// Each page is read from the log again, so that each statement calls it.
-const OPTIONS: Options = Options {
-    cache_pages: 1,
-    spill_pages: 1,
-    checkpoint_frames: 1000,
-    seed: 9,
-};
-
-/// Memory of which one call fails.
-type Faulty = FailOnce<Memory>;
 
 /// Collects the commands of a script's lines.
 fn commands_of(alloc: Global, script: &str) -> Result<Vec<Command>, Refusal>
@@ -88,14 +78,6 @@ fn submit_over<S: Alter + Drop>(
     }
 }
 
-/// Returns the files of a connection, closed as far as their disk allows it.
-fn closed<D: Disk + Drop>(connection: Connection<FileStore<D>>) -> Files<D> {
-    match connection.close_files() {
-        Ok(files) => files,
-        Err((_, store)) => store.close(),
-    }
-}
-
 /// Commits the script's commands together in the database of these files. For files of whatever kind, so that the proof
 /// knows nothing of them.
 fn submit_in<D: Disk + Drop>(alloc: Global, files: Files<D>) -> (Result<(), Refusal>, Files<D>) {
@@ -125,34 +107,17 @@ fn found_in<D: Disk + Drop>(alloc: Global, files: Files<D>) -> Result<(bool, boo
     }
 }
 
-/// Memory with these bytes, which fails after so many calls.
-fn faulty(alloc: Global, bytes: &[u8], calls: u64) -> io::Result<Faulty> {
-    let mut memory = Memory::new(alloc);
-    memory.write_at(0, bytes)?;
-    Ok(FailOnce::new(memory, calls))
-}
-
-/// Files with the bytes of these, which work.
-fn working(alloc: Global, files: &Files<Faulty>) -> io::Result<Files<Faulty>> {
-    Ok(Files {
-        log: faulty(alloc, files.log.inner().bytes(), u64::MAX)?,
-        db: faulty(alloc, files.db.inner().bytes(), u64::MAX)?,
-    })
-}
-
 /// Commits the script's commands together in a new database whose log fails once, after so many calls. Returns what comes of
 /// it, and the files.
 fn submit_after(alloc: Global, calls: u64) -> io::Result<(Result<(), Refusal>, Files<Faulty>)> {
-    let log = faulty(alloc, b"", calls)?;
-    let db = faulty(alloc, b"", u64::MAX)?;
-    Ok(submit_in(alloc, Files { log, db }))
+    Ok(submit_in(alloc, new_files(alloc, calls)?))
 }
 
 /// Checks whether a database whose log fails once, after so many calls, then encodes all of the script's commands or none,
 /// as was reported; and whether that call came.
 fn is_right_after(alloc: Global, calls: u64) -> Result<(bool, bool), Fail> {
     let (done, files) = submit_after(alloc, calls)?;
-    let (is_before, is_after) = found_in(alloc, working(alloc, &files)?)?;
+    let (is_before, is_after) = found_in(alloc, copies(alloc, &files, u64::MAX)?)?;
     let is_right = match done {
         Ok(()) => is_after,
         Err(Refusal::StoreFailed(StoreCall::Commit)) => is_before || is_after,
@@ -165,7 +130,7 @@ fn is_right_after(alloc: Global, calls: u64) -> Result<(bool, bool), Fail> {
 fn commits_all_or_none(rt: HostRuntime) -> Result<(), Fail> {
     let alloc = rt.alloc();
     let (_done, whole) = submit_after(alloc, u64::MAX)?;
-    let made = u64::MAX - whole.log.calls_left();
+    let made = calls_made(&whole);
     for calls in 0..=made {
         let met = is_right_after(alloc, calls)?;
         assert_eq!(rt; met, (true, calls < made), "{calls}");

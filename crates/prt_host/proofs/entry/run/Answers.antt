@@ -1,14 +1,16 @@
-use Rattle.std.proofs.Common.{◌≡◌, inl, inr, ap}
-use Rattle.prt_host.proofs.Runs.{asks, exit_alone, same_at, serves}
-use Rattle.prt_host.specs.Runs.{Asks}
+use Rattle.std.proofs.Common.{◌≡◌, ap, subst}
+use Rattle.prt_host.proofs.Runs.{asks_from, exit_alone, has_answered, has_served, same_at}
+use Rattle.prt_host.specs.Runs.{answers, serves}
 use Rattle.prt_program.specs.Faults.{database_of}
+use Rattle.prt_program.specs.Program.{LeavesInput}
+use Rattle.prt_questions.specs.Sources.{sources_of}
 use Rattle.prt_words.specs.Invocation.{arguments, invocation}
 use Rattle.prt_host.proofs.entry.run.Goals as goal
 
 pub returns-in-Exit : goal.returns-in-Exit
 returns-in-Exit g c =
     let asked = invocation (arguments c.args.words.now) in
-    exit_alone g.S.Store g.M.Machine.opens g.M.Machine.closes c.args.databases.now c.program-next.new.databases (λ d. d.machine) g.M.Machine.refuses g.F.File.Read.remaining asked _ c.in-Exit.status c.in-Exit.ensures.run c.in-Exit.ensures.unopened
+    exit_alone g.S.Store g.M.Machine.opens g.M.Machine.closes c.args.databases.now c.program-next.new.databases (λ d. d.machine) g.M.Machine.refuses g.F.Opened.Read.remaining _ asked _ c.in-Exit.status c.in-Exit.ensures.run c.in-Exit.ensures.unopened
 
 pub returns-in-Serve : goal.returns-in-Serve
 returns-in-Serve g c =
@@ -16,8 +18,9 @@ returns-in-Serve g c =
     let old = c.args.databases.now.machine in
     let mid = c.program-next.new.databases.machine in
     let same : mid ≡ old = same_at c.args.databases.now c.program-next.new.databases (λ d. d.machine) (said.unopened (ap database_of said.serve.0)) in
-    let ended = serves g.S.Store g.M.Machine.opens g.M.Machine.refuses g.M.Machine.closes mid old c.serve.new.databases.machine same c.in-Serve.serving c.serve.result said.serve.1 c.serve.ensures.done c.serve.ensures.fault c.serve.ensures.why in
-    record { outcome = inr (inr (inl (said.serve.0, ended))) }
+    let words = arguments c.args.words.now in
+    let ended = has_served g.S.Store g.M.Machine.opens g.M.Machine.refuses g.M.Machine.closes mid old c.serve.new.databases.machine same words c.in-Serve.serving c.serve.result said.serve.2 said.serve.1 c.serve.ensures.done c.serve.ensures.fault c.serve.ensures.why in
+    serves words said.serve.0 ended
 
 pub returns-in-Ask : goal.returns-in-Ask
 returns-in-Ask g c =
@@ -30,6 +33,14 @@ returns-in-Ask g c =
     let writer_mid = contents c.program-next.new.output.stream in
     let writer = contents c.answer_question-status.new.output.stream in
     let asked = c.answer_question-status in
+    let words = arguments c.args.words.now in
     let same : mid ≡ old = same_at c.args.databases.now c.program-next.new.databases (λ d. d.machine) (said.unopened (ap database_of said.ask.0)) in
-    let ended : Asks g.S.Store g.M.Machine.opens g.M.Machine.refuses g.M.Machine.closes mid new writer_mid writer asked.result = record { question = c.in-Ask.asked; status_is = asked.ensures.status; whole = asked.ensures.whole; found = asked.ensures.found; at_most = asked.ensures.at_most } in
-    record { outcome = inr (inr (inr (said.ask.0, asks g.S.Store g.M.Machine.opens g.M.Machine.refuses g.M.Machine.closes mid old new same writer_mid writer0 writer said.ask.1 asked.result ended))) }
+    let remaining = g.R.Read.remaining in
+    let all : c.program-next.new.databases ≡ c.args.databases.now = said.unopened (ap database_of said.ask.0) in
+    let unread : remaining c.program-next.new.input.stream ≡ remaining c.args.input.now.stream =
+    subst (λ asked. LeavesInput asked (remaining c.args.input.now.stream) (remaining c.program-next.new.input.stream)) said.ask.0 said.unread in
+    answers words said.ask.0
+    (has_answered g.S.Store g.M.Machine.opens g.M.Machine.refuses g.M.Machine.closes mid old new same words _ writer_mid writer0 writer said.ask.2 asked.result
+    (asks_from g.S.Store g.M.Machine.opens g.M.Machine.refuses g.M.Machine.closes mid new words c.args.databases.now c.program-next.new.databases all (remaining c.args.input.now.stream) (remaining c.program-next.new.input.stream) unread
+    (λ databases input. sources_of g.F.ReadFiles.opens g.F.Opened.Read.remaining databases.files.now g.N.LocalNet.reaches g.N.Stream.Read.remaining databases.rt input) writer_mid writer asked.result
+    (record { question = c.in-Ask.asked; named = said.ask.1; status_is = asked.ensures.status; whole = asked.ensures.whole; found = asked.ensures.found; at_most = asked.ensures.at_most })))

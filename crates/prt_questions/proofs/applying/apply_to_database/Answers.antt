@@ -1,4 +1,4 @@
-use Rattle.std.proofs.Common.{inr, sym}
+use Rattle.std.proofs.Common.{inl, inr, rules, subst, sym}
 use Rattle.prt_questions.specs.Applying.{Leaves}
 use Rattle.prt_questions.proofs.Applied.{makes_tables, over_found}
 use Rattle.prt_questions.proofs.applying.apply_to_database.Goals as goal
@@ -12,7 +12,7 @@ returns-clause-whole g c = λ done.
       between = c.open_publisher-opened.new.machine;
       first = opened.was;
       last = c.end.result;
-      is_opened = opened.found;
+      is_opened = subst (λ wanted. g.M.Machine.opens wanted c.args.databases.now.machine c.open_publisher-opened.new.machine c.args.path.now opened.was) c.wanted_by.ensures opened.found;
       made = (c.in-Ok.made.0, over_found g.S.Store _ _ opened, (left, makes_tables c.args.manner.is_dry_run c.args.wanted.now left made.dry (made.made done)), made.whole done);
       is_closed = c.close.ensures;
     }
@@ -26,7 +26,10 @@ returns-clause-at_most g c =
       between = c.open_publisher-opened.new.machine;
       first = opened.was;
       last = c.end.result;
-      is_opened = opened.found;
+      is_opened = subst (λ wanted. g.M.Machine.opens wanted c.args.databases.now.machine c.open_publisher-opened.new.machine c.args.path.now opened.was) c.wanted_by.ensures opened.found;
       made = (c.in-Ok.made.0, over_found g.S.Store _ _ opened, left, made.part);
       is_closed = c.close.ensures;
     })
+
+pub returns-in_default-clause-at_most : goal.returns-in_default-clause-at_most
+returns-in_default-clause-at_most g c = rw (sym c.wanted_by.ensures) (inl (inr (c.in-Err.refusal, c.in-Err.ensures.closed), search (rules, c.report-status.ensures)))

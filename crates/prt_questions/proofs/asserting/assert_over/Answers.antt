@@ -2,7 +2,9 @@ use Rattle.std.proofs.Common.{◌≡◌, ◌∙◌, ap, arith, false, inr, subst
 use Rattle.std.specs.Io.KnownBytes.{Appends}
 use Rattle.prt_replies.specs.Written.{Written}
 use Rattle.prt_words.specs.declared.fault.TheConstants.{DONE}
+use Rattle.prt_claims.specs.Checking.{IsChecked}
 use Rattle.prt_questions.specs.Analyses.{IsAsserted, IsAssertedAtMost, breaches_text}
+use Rattle.prt_questions.specs.Sources.{IsFileOf, IsRead, path_of}
 use Rattle.prt_questions.specs.declared.asking.TheConstants.{REFUSED}
 use Rattle.prt_questions.proofs.asserting.assert_over.Goals as goal
 
@@ -13,8 +15,8 @@ returns-then-written-ne-DONE-clause-at_most g c =
     let version = c.args.tables.now.version in
     let checked = c.in-Ok-check_claims.checked in
     let are = c.in-Ok-text_of.ensures ∙ ap (λ breaches. breaches_text c.args.asserting.now.is_explained version breaches) c.deref-2.ensures.value in
-    subst (λ writer0. IsAssertedAtMost writer0 writer c.args.asserting.now version) c.in-Ok.ensures.unwritten
-    (inr (c.deref.result.now, checked, c.in-Ok-check_claims.ensures.value, inr (subst (λ text. Written false mid writer text) are c.write_text-written.ensures.part)))
+    subst (λ writer0. IsAssertedAtMost (IsRead (IsFileOf g.F.ReadFiles.opens g.F.Opened.Read.remaining c.args.files.now) (g.R.Read.remaining c.args.input.now) (path_of c.args.asserting.now.file)) writer0 writer c.args.asserting.now version) c.in-Ok.ensures.unwritten
+    (inr (c.in-Ok.text.items, c.in-Ok.ensures.read, checked, subst (λ text. IsChecked version text checked) c.deref.ensures.value c.in-Ok-check_claims.ensures.value, inr (subst (λ text. Written false mid writer text) are c.write_text-written.ensures.part)))
 
 pub returns-then-holds-clause-found : goal.returns-then-holds-clause-found
 returns-then-holds-clause-found g c = λ status.
@@ -23,8 +25,8 @@ returns-then-holds-clause-found g c = λ status.
     let version = c.args.tables.now.version in
     let checked = c.in-Ok-check_claims.checked in
     let are = c.in-Ok-text_of.ensures ∙ ap (λ breaches. breaches_text c.args.asserting.now.is_explained version breaches) c.deref-2.ensures.value in
-    subst (λ writer0. IsAsserted writer0 writer c.args.asserting.now c.args.tables.now.left version) c.in-Ok.ensures.unwritten
-    (c.deref.result.now, checked, c.in-Ok-check_claims.ensures.value, c.is_readable.ensures c.if-not-is_readable.false, subst (λ text. Appends mid writer text) are (c.write_text-written.ensures.whole c.if-written-ne-DONE.false), λ done. c.holds.ensures c.if-holds.true)
+    subst (λ writer0. IsAsserted (IsRead (IsFileOf g.F.ReadFiles.opens g.F.Opened.Read.remaining c.args.files.now) (g.R.Read.remaining c.args.input.now) (path_of c.args.asserting.now.file)) writer0 writer c.args.asserting.now c.args.tables.now.left version) c.in-Ok.ensures.unwritten
+    (c.in-Ok.text.items, c.in-Ok.ensures.read, checked, subst (λ text. IsChecked version text checked) c.deref.ensures.value c.in-Ok-check_claims.ensures.value, c.is_readable.ensures c.if-not-is_readable.false, subst (λ text. Appends mid writer text) are (c.write_text-written.ensures.whole c.if-written-ne-DONE.false), λ done. c.holds.ensures c.if-holds.true)
 
 pub returns-then-holds-clause-at_most : goal.returns-then-holds-clause-at_most
 returns-then-holds-clause-at_most g c =
@@ -33,8 +35,8 @@ returns-then-holds-clause-at_most g c =
     let version = c.args.tables.now.version in
     let checked = c.in-Ok-check_claims.checked in
     let are = c.in-Ok-text_of.ensures ∙ ap (λ breaches. breaches_text c.args.asserting.now.is_explained version breaches) c.deref-2.ensures.value in
-    subst (λ writer0. IsAssertedAtMost writer0 writer c.args.asserting.now version) c.in-Ok.ensures.unwritten
-    (inr (c.deref.result.now, checked, c.in-Ok-check_claims.ensures.value, inr (subst (λ text. Written false mid writer text) are c.write_text-written.ensures.part)))
+    subst (λ writer0. IsAssertedAtMost (IsRead (IsFileOf g.F.ReadFiles.opens g.F.Opened.Read.remaining c.args.files.now) (g.R.Read.remaining c.args.input.now) (path_of c.args.asserting.now.file)) writer0 writer c.args.asserting.now version) c.in-Ok.ensures.unwritten
+    (inr (c.in-Ok.text.items, c.in-Ok.ensures.read, checked, subst (λ text. IsChecked version text checked) c.deref.ensures.value c.in-Ok-check_claims.ensures.value, inr (subst (λ text. Written false mid writer text) are c.write_text-written.ensures.part)))
 
 pub returns-clause-found : goal.returns-clause-found
 returns-clause-found g c = λ status.
@@ -43,8 +45,8 @@ returns-clause-found g c = λ status.
     let version = c.args.tables.now.version in
     let checked = c.in-Ok-check_claims.checked in
     let are = c.in-Ok-text_of.ensures ∙ ap (λ breaches. breaches_text c.args.asserting.now.is_explained version breaches) c.deref-2.ensures.value in
-    subst (λ writer0. IsAsserted writer0 writer c.args.asserting.now REFUSED version) c.in-Ok.ensures.unwritten
-    (c.deref.result.now, checked, c.in-Ok-check_claims.ensures.value, c.is_readable.ensures c.if-not-is_readable.false, subst (λ text. Appends mid writer text) are (c.write_text-written.ensures.whole c.if-written-ne-DONE.false), λ done. (let bad : REFUSED ≡ DONE = done in absurd (omega arith)))
+    subst (λ writer0. IsAsserted (IsRead (IsFileOf g.F.ReadFiles.opens g.F.Opened.Read.remaining c.args.files.now) (g.R.Read.remaining c.args.input.now) (path_of c.args.asserting.now.file)) writer0 writer c.args.asserting.now REFUSED version) c.in-Ok.ensures.unwritten
+    (c.in-Ok.text.items, c.in-Ok.ensures.read, checked, subst (λ text. IsChecked version text checked) c.deref.ensures.value c.in-Ok-check_claims.ensures.value, c.is_readable.ensures c.if-not-is_readable.false, subst (λ text. Appends mid writer text) are (c.write_text-written.ensures.whole c.if-written-ne-DONE.false), λ done. (let bad : REFUSED ≡ DONE = done in absurd (omega arith)))
 
 pub returns-clause-at_most : goal.returns-clause-at_most
 returns-clause-at_most g c =
@@ -53,5 +55,5 @@ returns-clause-at_most g c =
     let version = c.args.tables.now.version in
     let checked = c.in-Ok-check_claims.checked in
     let are = c.in-Ok-text_of.ensures ∙ ap (λ breaches. breaches_text c.args.asserting.now.is_explained version breaches) c.deref-2.ensures.value in
-    subst (λ writer0. IsAssertedAtMost writer0 writer c.args.asserting.now version) c.in-Ok.ensures.unwritten
-    (inr (c.deref.result.now, checked, c.in-Ok-check_claims.ensures.value, inr (subst (λ text. Written false mid writer text) are c.write_text-written.ensures.part)))
+    subst (λ writer0. IsAssertedAtMost (IsRead (IsFileOf g.F.ReadFiles.opens g.F.Opened.Read.remaining c.args.files.now) (g.R.Read.remaining c.args.input.now) (path_of c.args.asserting.now.file)) writer0 writer c.args.asserting.now version) c.in-Ok.ensures.unwritten
+    (inr (c.in-Ok.text.items, c.in-Ok.ensures.read, checked, subst (λ text. IsChecked version text checked) c.deref.ensures.value c.in-Ok-check_claims.ensures.value, inr (subst (λ text. Written false mid writer text) are c.write_text-written.ensures.part)))

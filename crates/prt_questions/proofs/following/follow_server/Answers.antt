@@ -16,6 +16,7 @@ returns-then-following-clause-whole g c = λ done.
       c.in-Ok-fence_beside.fence,
       c.in-Ok-fence_beside.ensures,
       c.in-Ok-open_feed.opened.1,
+      c.in-Ok-open_feed.ensures,
       subst (Appends (g.W.Write.contents c.args.output.now) (g.W.Write.contents c.write_made-written.new.output)) c.in-Ok-begin.ensures.text
           (subst (λ (a : Option (List ℕ)). Appends a (g.W.Write.contents c.write_made-written.new.output) c.in-Ok-begin.begun.1.text.items) c.in-Ok.ensures.unwritten (c.write_made-written.ensures.whole (inl wrote))),
     )
@@ -28,6 +29,7 @@ returns-then-following-clause-at_most g c =
       c.in-Ok-fence_beside.fence,
       c.in-Ok-fence_beside.ensures,
       c.in-Ok-open_feed.opened.1,
+      c.in-Ok-open_feed.ensures,
       [],
       tt,
       first_lines c.in-Ok-fence_beside.fence c.in-Ok.read.0.version c.in-Ok-open_feed.opened.1 (g.W.Write.contents c.args.output.now) (g.W.Write.contents c.write_made-written.new.output)
@@ -45,4 +47,4 @@ returns-clause-at_most g c =
     (subst (λ (a : Option (List ℕ)). Written true a (g.W.Write.contents c.write_made-written.new.output) c.in-Ok-begin.begun.1.text.items) c.in-Ok.ensures.unwritten (c.write_made-written.ensures.whole all))
     c.follow-end.ensures
     in
-    inr (c.in-Ok.read.0, c.in-Ok.ensures.made, c.in-Ok-fence_beside.fence, c.in-Ok-fence_beside.ensures, c.in-Ok-open_feed.opened.1, rest.0, rest.1, rest.2)
+    inr (c.in-Ok.read.0, c.in-Ok.ensures.made, c.in-Ok-fence_beside.fence, c.in-Ok-fence_beside.ensures, c.in-Ok-open_feed.opened.1, c.in-Ok-open_feed.ensures, rest.0, rest.1, rest.2)

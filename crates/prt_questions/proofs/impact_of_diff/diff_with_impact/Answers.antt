@@ -1,25 +1,28 @@
 use Rattle.std.proofs.Common.{◌≡◌, ◌⊎◌, ℕ, List, subst}
 use Rattle.std.specs.Io.KnownBytes.{Appends}
 use Rattle.prt_questions.specs.Asking.{IsCutOff, IsWithImpact}
+use Rattle.prt_questions.specs.Sources.{sources_of}
 use Rattle.prt_questions.proofs.ReadTables.{of_tables, of_tables_at_most}
 use Rattle.prt_questions.proofs.impact_of_diff.diff_with_impact.Goals as goal
 
 pub returns-clause-whole : goal.returns-clause-whole
 returns-clause-whole g c = λ done.
+    let from = sources_of g.F.ReadFiles.opens g.F.Opened.Read.remaining c.args.databases.now.files.now g.N.LocalNet.reaches g.N.Stream.Read.remaining c.args.databases.now.rt (g.R.Read.remaining c.args.input.now) in
     let writer = g.W.Write.contents c.write_difference.new.output in
     let writer0 = g.W.Write.contents c.args.output.now in
     let fence = c.args.comparison.now.fence.now in
     let found = c.args.comparison.now.found.now in
-    of_tables g.S.Store g.M.Machine.opens g.M.Machine.refuses g.M.Machine.closes c.args.databases.now.machine c.tables_at.new.databases.machine c.args.source.now c.in-Ok.tables.version
+    of_tables g.S.Store g.M.Machine.opens g.M.Machine.refuses g.M.Machine.closes from c.args.databases.now.machine c.tables_at.new.databases.machine c.args.source.now c.in-Ok.tables.version
     (λ state. (text : List ℕ) × IsWithImpact fence found state text × Appends writer0 writer text) c.in-Ok.ensures.read
     (subst (λ first. (text : List ℕ) × IsWithImpact fence found c.in-Ok.tables.version text × Appends first writer text) c.in-Ok.ensures.unwritten (c.write_difference.ensures.whole done))
 
 pub returns-clause-at_most : goal.returns-clause-at_most
 returns-clause-at_most g c =
+    let from = sources_of g.F.ReadFiles.opens g.F.Opened.Read.remaining c.args.databases.now.files.now g.N.LocalNet.reaches g.N.Stream.Read.remaining c.args.databases.now.rt (g.R.Read.remaining c.args.input.now) in
     let writer = g.W.Write.contents c.write_difference.new.output in
     let writer0 = g.W.Write.contents c.args.output.now in
     let fence = c.args.comparison.now.fence.now in
     let found = c.args.comparison.now.found.now in
-    of_tables_at_most g.S.Store g.M.Machine.opens g.M.Machine.refuses g.M.Machine.closes c.args.databases.now.machine c.tables_at.new.databases.machine c.args.source.now c.in-Ok.tables.version
+    of_tables_at_most g.S.Store g.M.Machine.opens g.M.Machine.refuses g.M.Machine.closes from c.args.databases.now.machine c.tables_at.new.databases.machine c.args.source.now c.in-Ok.tables.version
     (writer ≡ writer0) (λ state. (text : List ℕ) × IsWithImpact fence found state text × IsCutOff text writer0 writer) c.in-Ok.ensures.read
     (subst (λ first. (writer ≡ first) ⊎ ((text : List ℕ) × IsWithImpact fence found c.in-Ok.tables.version text × IsCutOff text first writer)) c.in-Ok.ensures.unwritten c.write_difference.ensures.part)

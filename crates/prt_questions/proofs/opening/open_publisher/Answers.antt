@@ -9,7 +9,7 @@ returns-in-Ok-clause-opened g c =
     let made = c.in-Ok.ensures.ok in
     record {
       was = made.was;
-      found = subst (λ (r : Result (Held _) _). IfOk r (g.M.Machine.opens c.args.machine.now c.open.new.self c.args.path.now)) made.found c.open.ensures.opened;
+      found = subst (λ (r : Result (Held _) _). IfOk r (g.M.Machine.opens c.args.wanted c.args.machine.now c.open.new.self c.args.path.now)) made.found c.open.ensures.opened;
       format = made.format;
       opened = made.opened;
       begun = made.begun;
@@ -26,7 +26,7 @@ returns-in-Err-default-Ok-clause-closed g c =
       between = c.open.new.self;
       first = refused.was;
       last = closed.0;
-      is_opened = subst (λ (r : Result (Held _) _). IfOk r (g.M.Machine.opens c.args.machine.now c.open.new.self c.args.path.now)) refused.found c.open.ensures.opened;
+      is_opened = subst (λ (r : Result (Held _) _). IfOk r (g.M.Machine.opens c.args.wanted c.args.machine.now c.open.new.self c.args.path.now)) refused.found c.open.ensures.opened;
       made = (c.in-Err-default-Ok.conn, refused.refused, closed.1);
       is_closed = closed.2;
     })

@@ -1,4 +1,4 @@
-use Rattle.std.proofs.Common.{◌≡◌}
+use Rattle.std.proofs.Common.{◌≡◌, ◌^◌, ◌-◌, length, min}
 use Rattle.prt_front.specs.Line.{Begins}
 use Rattle.prt_serve.specs.Jobs.{ServesEach}
 use Rattle.prt_serve.proofs.worker.serve_jobs.Given as goal
@@ -9,5 +9,6 @@ invariant-loop-job g l = record {
   of_base : l.looker.known.base ≡ g.J.Naming.base;
   grows : Begins l.fn.looker.known l.looker.known;
   served : ServesEach g.R.Read.remaining g.W.Write.contents (λ to left later. goal.F-step g to left tt later) l.fn.looker.known l.fn.after l.yielded l.looker.known l.after;
+  counted : l.served ≡ min (length l.yielded) (2 ^ 64 - 1);
   callable : goal.F-IsAlwaysCallable g l.after;
 }

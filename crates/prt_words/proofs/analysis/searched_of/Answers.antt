@@ -1,12 +1,9 @@
-use Rattle.std.proofs.Common.{◌∙◌, ap, codes, subst, sym}
-use Rattle.std.specs.Prelude.{MatchOption, option_and_then}
-use Rattle.clap.proofs.WalkLemmas.{first_value-rows}
-use Rattle.clap.specs.Words.{found_of}
+use Rattle.std.proofs.Common.{subst}
+use Rattle.std.specs.Prelude.{MatchOption}
 use Rattle.prt_words.specs.Analysis.{IsNamed, NoneIsNamed}
-use Rattle.prt_words.specs.Invocation.{file_of}
 use Rattle.prt_words.proofs.analysis.searched_of.Goals as goal
 
 pub returns-in-None-default : goal.returns-in-None-default
 returns-in-None-default c =
     let none = subst (λ named. MatchOption named (NoneIsNamed c.args.matches.now) (IsNamed c.args.matches.now)) c.in-None-default.is-0 c.in_ok-named_source.ensures in
-    (none, c.file_in.ensures ∙ ap (option_and_then file_of) (sym (first_value-rows (found_of c.args.matches.now) (codes "file"))))
+    (none, c.file_in.ensures.value)

@@ -8,5 +8,5 @@ use Rattle.prt_words.proofs.task.file_in.Goals as goal
 
 pub returns : goal.returns
 returns c =
-    path_of c.get_str.result c.and_then.result c.and_then.ensures
-    ∙ ap (option_and_then file_of) (c.get_str.ensures ∙ first_value-rows (found_of c.args.matches.now) (codes "file"))
+    let values = path_of c.get_str.result c.and_then.result c.and_then.ensures ∙ ap (option_and_then file_of) c.get_str.ensures in
+    record { rows = values ∙ ap (option_and_then file_of) (first_value-rows (found_of c.args.matches.now) (codes "file")); value = values }

@@ -1,14 +1,16 @@
-use Rattle.std.proofs.Common.{rules, ◌≡◌, ◌∙◌, ℕ, Some, is_some, ap, subst, sym, map, List, true≢false}
+use Rattle.std.proofs.Common.{rules, ◌≡◌, ◌∙◌, ℕ, Some, is_some, option_map, codes, ap, subst, sym, map, List, true≢false}
 use Rattle.std.proofs.lemmas.Result.{IfErr-weaker, IfOk-weaker, err_from_is_err_and}
 use Rattle.std.specs.Prelude.{IfSome, string_bytes}
 use Rattle.clap.specs.Kinds.{HasKind}
-use Rattle.clap.specs.Words.{App, fault_of, is_simple, is_simple_and_free, subcommand_name_of, subcommand_of}
+use Rattle.clap.specs.declared.parser.matches.ArgMatches.{ArgMatches}
+use Rattle.prt_words.specs.Read.{IsAskedBy}
+use Rattle.clap.specs.Words.{App, fault_of, found_of, rows_of, subcommand_rows_of, is_simple, is_simple_and_free, subcommand_name_of, subcommand_of}
 use Rattle.prt_words.specs.Asking.{name_of_asked}
 use Rattle.prt_words.specs.CommandLine.{command_line}
 use Rattle.prt_words.specs.Invocation.{invocation, arguments}
 use Rattle.prt_words.proofs.WordClasses.{simple_line, free_line}
 use Rattle.prt_words.proofs.ParsedWords.{words_agree}
-use Rattle.prt_words.proofs.WordsRead.{asked_is, conflict_fault, conflicting_is, no_question_of, other_is, question_is, served_is, words_fault}
+use Rattle.prt_words.proofs.WordsRead.{asked_is, conflict_fault, conflicting_is, found_in, named_found, no_question_of, no_reading, other_is, question_is, served_is, words_fault}
 use Rattle.prt_words.proofs.task.read_words.Goals as goal
 
 pub returns-in_err-matches-clause-fault : goal.returns-in_err-matches-clause-fault
@@ -63,6 +65,27 @@ returns-in-Some-2-clause-question c =
     let asks = sym c.in_ok-asked-in-None.ensures.asked ∙ ap is_some c.in-Some-2.is in
     let named = subst (λ asked. IfSome asked (λ asked. subcommand_name_of c.in_ok-matches.matches ≡ Some (name_of_asked asked))) c.in-Some-2.is c.in_ok-asked-in-None.ensures.word in
     question_is texts c.in_ok-matches.matches (name_of_asked c.in-Some-2.asked) found none asks named
+
+pub returns-in-Some-clause-reads : goal.returns-in-Some-clause-reads
+returns-in-Some-clause-reads c =
+    let texts : List (List ℕ) = map string_bytes c.args.words.now in
+    let line = c.in_ok-command_line.ensures in
+    let found = (c.in_ok-matches.ensures.matches (ap is_simple line ∙ simple_line)).1 ∙ ap (λ (a : App). subcommand_of a texts) line in
+    let named = c.subcommand_matches.ensures.found.0 (ap is_some c.in-Some.is) in
+    let rows = subst (λ matches. IfSome matches (λ m. option_map (λ p. p.1) (subcommand_rows_of c.in_ok-matches.matches) ≡ Some (rows_of (found_of m.now)))) c.in-Some.is c.subcommand_matches.ensures.rows in
+    (c.in-Some.found.now, found_in texts c.in_ok-matches.matches (codes "serve") c.in-Some.found.now found (named_found c.in_ok-matches.matches (codes "serve") _ named rows), c.in_ok-serving_of-in-Some.ensures.reads)
+
+pub returns-in-Some-2-clause-reads : goal.returns-in-Some-2-clause-reads
+returns-in-Some-2-clause-reads c =
+    let texts : List (List ℕ) = map string_bytes c.args.words.now in
+    let line = c.in_ok-command_line.ensures in
+    let found = (c.in_ok-matches.ensures.matches (ap is_simple line ∙ simple_line)).1 ∙ ap (λ (a : App). subcommand_of a texts) line in
+    let is = subst (λ asked. IfSome asked (λ asked. (found : ArgMatches) × (subcommand_rows_of c.in_ok-matches.matches ≡ Some (name_of_asked asked, rows_of (found_of found))) × IsAskedBy found asked)) c.in-Some-2.is c.in_ok-asked-in-None.ensures.reads in
+    (is.0, found_in texts c.in_ok-matches.matches (name_of_asked c.in-Some-2.asked) is.0 found is.1, is.2)
+
+pub returns-clause-reads : goal.returns-clause-reads
+returns-clause-reads c =
+    IfOk-weaker c.task_of.result _ _ (λ task is. no_reading (arguments c.args.words.now) _ task is) c.task_of.ensures.task
 
 pub returns-clause-question : goal.returns-clause-question
 returns-clause-question c =

@@ -21,16 +21,16 @@ was g c = was_committed (line_state c.self.inside.front) c.self.inside.step c.in
 
 pub publish_all-requires-clause-stamp : goal.publish_all-requires-clause-stamp
 publish_all-requires-clause-stamp g c =
-    number_next c.self.inside.front c.in-Committed.stamp.number (length c.in-Committed.plan.commands.items) c.self.invariant.2 (was g (goal.at.publish_all-requires-clause-stamp g c).In-Committed).1
+    rw c.of.ensures (number_next c.self.inside.front c.in-Committed.stamp.number (length c.in-Committed.plan.commands.items) c.self.invariant.2 (was g (goal.at.publish_all-requires-clause-stamp g c).In-Committed).1)
 
 pub publish_all-requires-clause-some : goal.publish_all-requires-clause-some
-publish_all-requires-clause-some g c = (was g (goal.at.publish_all-requires-clause-some g c).In-Committed).0.some
+publish_all-requires-clause-some g c = rw c.of.ensures (was g (goal.at.publish_all-requires-clause-some g c).In-Committed).0.some
 
 pub publish_all-requires-clause-accepted : goal.publish_all-requires-clause-accepted
-publish_all-requires-clause-accepted g c = (was g (goal.at.publish_all-requires-clause-accepted g c).In-Committed).0.accepted
+publish_all-requires-clause-accepted g c = rw c.of.ensures (was g (goal.at.publish_all-requires-clause-accepted g c).In-Committed).0.accepted
 
 pub publish_all-requires-clause-next : goal.publish_all-requires-clause-next
-publish_all-requires-clause-next g c = (was g (goal.at.publish_all-requires-clause-next g c).In-Committed).0.shown
+publish_all-requires-clause-next g c = rw c.of.ensures (was g (goal.at.publish_all-requires-clause-next g c).In-Committed).0.shown
 
 pub returns-in-Ok-clause-stands : goal.returns-in-Ok-clause-stands
 returns-in-Ok-clause-stands g c known =
@@ -39,7 +39,7 @@ returns-in-Ok-clause-stands g c known =
     let is : c.self.inside.step ≡ step.Committed plan c.in-Committed.stamp = sym c.replace.ensures.value ∙ c.in-Committed.is in
     let conn = c.self.inside.store.conn in
     let agrees : IsStored g.S.Store conn (fold (line_state old) plan.commands.items) = subst (λ (x : Step). Agrees g.S.Store (phase_of x) (commands_of x) (line_state old) conn) is (c.self.invariant.4 known) in
-    subst (IsStored g.S.Store conn) (sym (state_grown old c.publish_all.new.self plan.commands.items c.in-Ok.ensures.list.0)) agrees
+    subst (IsStored g.S.Store conn) (sym (state_grown old c.publish_all.new.self plan.commands.items (rw c.of.ensures at (c.in-Ok.ensures.list.0)))) agrees
 
 pub invariant_of-self : goal.invariant_of-self
 invariant_of-self g c =
@@ -47,7 +47,7 @@ invariant_of-self g c =
     let plan = c.in-Committed.plan in
     let is : c.self.inside.step ≡ step.Committed plan c.in-Committed.stamp = sym c.replace.ensures.value ∙ c.in-Committed.is in
     let kept = was g (goal.at.invariant_of-self g c).In-Committed in
-    let front : c.publish_all.new.self ≡ grown_by old plan.commands.items = c.in-Ok.ensures.list.0 in
+    let front : c.publish_all.new.self ≡ grown_by old plan.commands.items = rw c.of.ensures at (c.in-Ok.ensures.list.0) in
     let next : arc_value plan.next ≡ line_state c.publish_all.new.self = kept.0.next ∙ sym (state_grown old c.publish_all.new.self plan.commands.items front) in
     let noted : arc_value plan.noted ≡ arc_value plan.next = kept.0.noted ∙ sym kept.0.next in
     let counted = count_fold (line_state old) plan.commands.items kept.0.accepted in

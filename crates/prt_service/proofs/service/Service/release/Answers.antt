@@ -1,6 +1,7 @@
+use Rattle.std.proofs.Common.{sym}
 use Rattle.prt_service.proofs.service.Service.release.Goals as goal
 
 pub returns : goal.returns
 returns g c =
     let said = c.release.ensures in
-    record { last = c.into_inner.result; its = cc; quiet = said.quiet; named = said.of; stands = said.stands }
+    record { last = c.into_inner.result; its = cc; line = sym said.published; quiet = said.quiet; named = said.of; stands = said.stands }

@@ -1,0 +1,48 @@
+-- What a reader of a connection that has read nothing yet gives.
+use Rattle.std.proofs.Common.{◌≡◌, ◌∙◌, IfSome, ℕ, List, [], Option, Some, None, ap, refl, sym, subst}
+use Rattle.std.specs.Prelude.{◌==◌, if◌then◌else◌, ◌++◌}
+use Rattle.std.specs.Io.Buffered.{reader_buffer, reader_capacity, reader_inner, reader_remaining}
+use Rattle.std.specs.Io.KnownBytes.{Consumes, Keeps, prepend_known}
+use Rattle.std.specs.declared.io.buffered.BufReader.{BufReader}
+use Rattle.prt_feed.specs.Reading.{IsOpening}
+use Rattle.prt_feed.specs.declared.opening.Opening.{Opening}
+
+-- nothing goes before it
+nothing_before : (known : Option (List ℕ)) → prepend_known [] known ≡ known
+nothing_before None = refl
+nothing_before (Some all) = refl
+
+by_capacity : {T A : Type 0} (said : T → Option (List ℕ)) (reader : BufReader T A) → (known : Option (List ℕ)) → prepend_known (reader_buffer reader) (said reader.inner) ≡ known → (capacity : ℕ) → capacity ≡ 8192
+    → (if capacity == 0 then None else prepend_known (reader_buffer reader) (said reader.inner)) ≡ known
+by_capacity said reader known is capacity size = rw size is
+
+pub fresh : {T A : Type 0} (said : T → Option (List ℕ)) (reader : BufReader T A) (inner : T) → reader_inner reader ≡ inner → reader_buffer reader ≡ [] → reader_capacity reader ≡ 8192 → reader_remaining said reader ≡ said inner
+fresh said reader inner is empty size =
+    by_capacity said reader (said inner) (ap (λ buffer. prepend_known buffer (said reader.inner)) empty ∙ nothing_before (said reader.inner) ∙ ap said is) (reader_capacity reader) size
+
+-- what is kept is kept for longer
+pub keeps_on : (a b c : Option (List ℕ)) → Keeps a b → Keeps b c → Keeps a c
+keeps_on None b c first second = tt
+keeps_on (Some xs) (Some ys) (Some zs) first second = second ∙ first
+keeps_on (Some xs) (Some ys) None first second = absurd second
+keeps_on (Some xs) None c first second = absurd first
+
+consumed_of : (a b c : Option (List ℕ)) (text : List ℕ) → Keeps a b → Consumes b c text → Consumes a c text
+consumed_of None b c text kept taken = tt
+consumed_of (Some xs) (Some ys) (Some zs) text kept taken = sym kept ∙ taken
+consumed_of (Some xs) (Some ys) None text kept taken = absurd taken
+consumed_of (Some xs) None c text kept taken = absurd kept
+
+-- the opening of what was kept
+pub opening_of : (a b c : Option (List ℕ)) (opening : Opening) → Keeps a b → IsOpening b c opening → IsOpening a c opening
+opening_of a b c opening kept read = record {
+  lines = read.lines;
+  tables = read.tables;
+  taken = record { read = consumed_of a b c _ kept read.taken.read; whole = read.taken.whole };
+}
+
+-- all of what was kept
+pub all_of : (a b : Option (List ℕ)) (P : List ℕ → Type 0) → Keeps a b → IfSome b P → IfSome a P
+all_of None b P kept all = tt
+all_of (Some xs) (Some ys) P kept all = subst P kept all
+all_of (Some xs) None P kept all = absurd kept

@@ -1,0 +1,30 @@
+-- What a server said to the line of a query.
+use Rattle.std.specs.Prelude.{◌≡◌, ℕ, List, Option}
+use Rattle.prt_import.specs.TableNames.{names_of}
+use Rattle.prt_version.specs.State.{State}
+use Rattle.prt_words.specs.declared.server_place.ServerPlace.{ServerPlace}
+use Rattle.prt_questions.specs.Asking.{called, said}
+use Rattle.prt_questions.specs.Sources.{AreTold, IsReply}
+use Rattle.prt_questions.specs.declared.inquiry.Inquiry.{Inquiry}
+use Rattle.prt_questions.specs.declared.local.Socket.{Socket}
+use Rattle.prt_questions.specs.declared.remote.Told.{Told}
+use Rattle.prt_questions.specs.declared.remote.Told.TheVariants.{Reply, Tables}
+
+-- these tables were told, or this was replied
+abbrev pub TellsOrReplies : (tells : State → Type 0) → (replies : List ℕ → Type 0) → Told → Type 0
+TellsOrReplies tells replies (Tables version) = tells version
+TellsOrReplies tells replies (Reply reply) = replies reply.items
+
+module _ {N Stream : Type 0} (reaches : N → ServerPlace → Socket → List ℕ → Stream → Type 0) where
+  -- this is a connection to a socket of the server at a place, over which these bytes were sent
+  abbrev pub IsReached : N → ServerPlace → List ℕ → Stream → Type 0
+  IsReached net place sent stream = (socket : Socket) × reaches net place socket sent stream
+
+  -- its feed told these tables, or a session replied this
+  abbrev pub IsToldBy : (Stream → Option (List ℕ)) → N → ServerPlace → (line : List ℕ) → Told → Type 0
+  IsToldBy said net place line told = TellsOrReplies (AreTold reaches said net place) (IsReply reaches said net place line) told
+
+-- a text is what was said to an inquiry: the answer of the tables, or the reply, with tables called as it asks
+abbrev pub IsSaidOf : Told → Inquiry → List ℕ → Type 0
+IsSaidOf (Tables version) inquiry text = text ≡ said inquiry version
+IsSaidOf (Reply reply) inquiry text = text ≡ called inquiry.labels inquiry.form (names_of inquiry.names.now) reply.items
