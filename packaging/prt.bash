@@ -52,7 +52,7 @@ _prt() {
   case ${COMP_WORDS[1]} in
     apply) options='--db --server --atomic --dry-run --impact --help' ;;
     assert) options='--db --server --explain --help' ;;
-    batch) options='--force --atomic --db --verbose --help' ;;
+    batch) options='--force --atomic --db --server --verbose --help' ;;
     check | replay) options=--help ;;
     explain | get | show) options='--db --server --json --names --help' ;;
     dump) options='--db --server --json --names --replace --help' ;;

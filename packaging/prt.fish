@@ -59,7 +59,7 @@ complete -c prt -n '__prt_runs apply assert batch check diff follow impact impor
 complete -c prt -n '__prt_runs explain; and __prt_is_after 2' -F
 
 complete -c prt -n '__prt_runs apply assert batch diff dump explain get impact import serve show unused' -l db -r -F -d 'The database file'
-complete -c prt -n '__prt_runs apply assert diff dump explain follow get impact show status unused wait' -l server -x -a /run/prt -d 'A server'
+complete -c prt -n '__prt_runs apply assert batch diff dump explain follow get impact show status unused wait' -l server -x -a /run/prt -d 'A server'
 complete -c prt -n '__prt_runs dump explain get impact show status' -l json -d 'Answer in JSON'
 complete -c prt -n '__prt_runs dump explain get show' -l names -d 'Print tables by their names'
 complete -c prt -n '__prt_runs diff follow' -l all -d 'Compare and change all rules and routes'

@@ -92,7 +92,7 @@ _prt() {
       ;;
     assert) _arguments -S $help $database $server '--explain[explain each claim that fails]' '*:file:_files' ;;
     batch)
-      _arguments -S $help $database '(--atomic)--force[go on after a refused line]' \
+      _arguments -S $help $database $server '(--atomic)--force[go on after a refused line]' \
         '(--force)--atomic[make all changes or none]' '--verbose[report each refused line]' '*:script:_files'
       ;;
     check | replay) _arguments -S $help '*:file:_files' ;;

@@ -38,6 +38,7 @@ fn serve<J: Naming, S: Alter + Drop, H: Wait + Clock + Copy + Drop, R: Read, W: 
         1,
         SocketAddr::from((Ipv4Addr::UNSPECIFIED, 0)),
         &OpenGate,
+        None,
         input,
         output,
     );

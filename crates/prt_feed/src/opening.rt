@@ -1,7 +1,8 @@
 //! The tables with which a feed begins.
-ghost use Rattle.std.specs.Prelude.{◌≡◌, IfErr, IfOk};
+ghost use Rattle.std.specs.Prelude.{◌≡◌, ◌⊎◌, IfErr, IfOk};
+ghost use Rattle.prt_refusals.specs.declared.refusal.Refusal.TheVariants.{Damaged, NoMemory};
 ghost use Rattle.prt_feed.specs.Numbered.{numbered_from};
-ghost use Rattle.prt_version.specs.RowsSpell.{RowsSpell};
+ghost use Rattle.prt_version.specs.RowsSpell.{RowsSpell, RowsSpellNone};
 
 use prt_dump::every_route;
 use prt_refusals::Refusal;
@@ -55,7 +56,8 @@ impl Opening {
     ///
     /// `Damaged` if the number is less than what the tables need, which is so of no feed of a server; `NoMemory`.
     pub fn into_version(self, alloc: Global) -> Result<Version, Refusal>
-        ensures { IfOk result (λ version. RowsSpell self.number (numbered_from 1 self.version.rules) self.version.routes version) }
+        ensures value { IfOk result (λ version. RowsSpell self.number (numbered_from 1 self.version.rules) self.version.routes version) }
+        ensures reason { IfErr result (λ reason. ((reason ≡ Damaged) × RowsSpellNone self.number (numbered_from 1 self.version.rules) self.version.routes) ⊎ (reason ≡ NoMemory)) }
     {
         let rules = numbered(alloc, self.version.rules())?;
         let routes = every_route(&self.version)?;

@@ -1,9 +1,11 @@
 -- Places among starts that rise.
-use Rattle.std.proofs.Common.{◌≡◌, ℕ, zero, suc, ◌+◌, ◌-◌, ◌<◌, ◌≤◌, List, length, ap, subst, arith, ⊎_elim, slice_index}
+use Rattle.std.proofs.Common.{◌≡◌, ℕ, zero, suc, ◌+◌, ◌-◌, ◌<◌, ◌≤◌, List, [], ◌∷◌, length, inl, inr, ap, subst, sym, arith, ⊎_elim, slice_index}
+use Rattle.std.specs.List.{Contains}
 use Rattle.std.specs.List.Sorted.{IsStrictlyIncreasing}
 use Rattle.std.proofs.lemmas.Bool.{cases_lt}
 use Rattle.std.proofs.lemmas.List.Kept.{AllPairs-from_increasing}
-use Rattle.prt_fib.specs.Places.{IsPlace}
+use Rattle.prt_partition.proofs.Starts.{IsIn, contains_in}
+use Rattle.prt_fib.specs.Places.{AreStartsFrom, IsCount, IsPlace, IsStart}
 
 pub rising_at : (starts : List ℕ) (i j : ℕ) → IsStrictlyIncreasing starts → i ≤ j → j < length starts → slice_index starts i ≤ slice_index starts j
 rising_at starts i j rise le lt =
@@ -28,21 +30,49 @@ found starts n low high rise lt met from to = record {
       (cases_lt high low);
 }
 
--- the start at a place isn't below the place
-at_least : (starts : List ℕ) (k : ℕ) → IsStrictlyIncreasing starts → k < length starts → k ≤ slice_index starts k
-at_least starts zero rise lt = omega arith
-at_least starts (suc k) rise lt =
-    let before : k ≤ slice_index starts k = at_least starts k rise (omega arith) in
+-- the start at a place is at least so far from the first
+at_least : (base : ℕ) (starts : List ℕ) (k : ℕ) → IsStrictlyIncreasing starts → slice_index starts 0 ≡ base → k < length starts → base + k ≤ slice_index starts k
+at_least base starts zero rise begin lt = omega arith
+at_least base starts (suc k) rise begin lt =
+    let before : base + k ≤ slice_index starts k = at_least base starts k rise begin (omega arith) in
     let up : slice_index starts k < slice_index starts (suc k) = AllPairs-from_increasing starts rise k (suc k) 0 (omega arith) lt in
     omega arith
 
--- no more numbers rise than there are
-pub few : (starts : List ℕ) (most : ℕ) → IsStrictlyIncreasing starts → ((k : ℕ) → k < length starts → slice_index starts k < most) → length starts ≤ most
-few starts most rise fit =
+-- a piece has no more starts than addresses
+pub few : (base : ℕ) (starts : List ℕ) → AreStartsFrom base starts → length starts ≤ 16777216
+few base starts are =
+    let some : 0 < length starts = are.some in
+    let last : base + (length starts - 1) ≤ slice_index starts (length starts - 1) = at_least base starts (length starts - 1) are.rise are.begin (omega arith) in
+    let fits : slice_index starts (length starts - 1) < base + 16777216 = are.below (length starts - 1) (omega arith) in
+    omega arith
+
+pub from_base : (base : ℕ) (starts : List ℕ) (k : ℕ) → AreStartsFrom base starts → k < length starts → base ≤ slice_index starts k
+from_base base starts k are lt = let up : slice_index starts 0 ≤ slice_index starts k = rising_at starts 0 k are.rise (omega arith) lt in let begin = are.begin in omega arith
+
+-- each start is at its own place
+pub own_place : (starts : List ℕ) (k : ℕ) → IsStrictlyIncreasing starts → k < length starts → IsPlace starts (slice_index starts k) k
+own_place starts k rise lt = record { within = lt; from = omega arith; to = λ more. rise k more }
+
+-- ---- starts as members
+
+start_in : (n : ℕ) (starts : List ℕ) → IsIn n starts → IsStart starts n
+start_in n [] h = absurd h
+start_in n (s ∷ starts) (inl is) = (0, omega arith, sym is)
+start_in n (s ∷ starts) (inr h) = let at = start_in n starts h in let lt = at.1 in (suc at.0, omega arith, at.2)
+
+pub start_of : (n : ℕ) (starts : List ℕ) → Contains starts n → IsStart starts n
+start_of n starts h = start_in n starts (contains_in n starts h)
+
+-- the first start that isn't below a start is that start
+pub counted : (starts : List ℕ) (n count : ℕ) → IsStrictlyIncreasing starts → IsCount starts n count → IsStart starts n → (count < length starts) × (slice_index starts count ≡ n)
+counted starts n count rise is at =
+    let here : slice_index starts at.0 ≡ n = at.2 in
+    let lt : at.0 < length starts = at.1 in
     ⊎_elim
-    (λ (some : 0 < length starts).
-    let last : length starts - 1 ≤ slice_index starts (length starts - 1) = at_least starts (length starts - 1) rise (omega arith) in
-    let fits : slice_index starts (length starts - 1) < most = fit (length starts - 1) (omega arith) in
-    omega arith)
-    (λ (none : length starts ≤ 0). omega arith)
-    (cases_lt 0 (length starts))
+    (λ (early : at.0 < count). let below : slice_index starts at.0 < n = is.below at.0 early in absurd (omega arith))
+    (λ (le : count ≤ at.0).
+    let within : count < length starts = omega arith in
+    let above : n ≤ slice_index starts count = is.above count (omega arith) within in
+    let up : slice_index starts count ≤ slice_index starts at.0 = rising_at starts count at.0 rise le lt in
+    (within, omega arith))
+    (cases_lt at.0 count)

@@ -1,5 +1,10 @@
-pub mod Compiled
+pub mod Changed
+pub mod Classified
 pub mod Finding
+pub mod Followed
 pub mod Linked
+pub mod Numbered
+pub mod Parts
 pub mod Same
-pub mod Spanned
+pub mod Splitting
+pub mod Steady

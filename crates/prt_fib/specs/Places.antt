@@ -1,5 +1,6 @@
--- Where addresses fall among the starts of spans.
+-- Where addresses fall among the starts of ranges.
 use Rattle.std.specs.Prelude.{ℕ, ◌≡◌, ◌+◌, ◌*◌, ◌<◌, ◌≤◌, List, length, slice_index}
+use Rattle.std.specs.List.Sorted.{IsStrictlyIncreasing}
 
 -- the start at the place is the last one at the number or before it
 pub record IsPlace (starts : List ℕ) (n place : ℕ) : Type 0 where
@@ -7,7 +8,28 @@ pub record IsPlace (starts : List ℕ) (n place : ℕ) : Type 0 where
   pub from : slice_index starts place ≤ n
   pub to : place + 1 < length starts → n < slice_index starts (place + 1)
 
--- the place of the first address of each block of 65,536 addresses, and of the number after all addresses
-pub record AreBlocks (starts directory : List ℕ) : Type 0 where
-  pub size : length directory ≡ 65537
-  pub places : (block : ℕ) → block < 65537 → IsPlace starts (block * 65536) (slice_index directory block)
+-- one of the starts is the number
+abbrev pub IsStart : List ℕ → ℕ → Type 0
+IsStart starts n = (k : ℕ) × (k < length starts) × (slice_index starts k ≡ n)
+
+-- starts among the 16,777,216 addresses from the base on, of which the base is the first
+pub record AreStartsFrom (base : ℕ) (starts : List ℕ) : Type 0 where
+  pub rise : IsStrictlyIncreasing starts
+  pub some : 0 < length starts
+  pub begin : slice_index starts 0 ≡ base
+  pub below : (k : ℕ) → k < length starts → slice_index starts k < base + 16777216
+
+-- the place of the first address of each of 256 blocks of 65,536 addresses, and the last place
+pub record AreBlocks (base : ℕ) (starts directory : List ℕ) : Type 0 where
+  pub size : length directory ≡ 257
+  pub places : (block : ℕ) → block < 257 → IsPlace starts (base + block * 65536) (slice_index directory block)
+
+-- the number at the place of an address
+abbrev pub IsNumberAt : List ℕ → List ℕ → ℕ → ℕ → Type 0
+IsNumberAt starts numbers n number = (place : ℕ) × IsPlace starts n place × (slice_index numbers place ≡ number)
+
+-- so many of the starts are below the number
+pub record IsCount (starts : List ℕ) (n count : ℕ) : Type 0 where
+  pub within : count ≤ length starts
+  pub below : (k : ℕ) → k < count → slice_index starts k < n
+  pub above : (k : ℕ) → count ≤ k → k < length starts → n ≤ slice_index starts k

@@ -1,38 +1,7 @@
-//! The places of addresses among the starts of spans.
-ghost use Rattle.std.specs.Prelude.{◌≡◌, ◌+◌, ◌<◌, ◌≤◌, ◌^◌, IfOk, length, slice_index};
+//! The places of addresses among starts.
+ghost use Rattle.std.specs.Prelude.{◌+◌, ◌<◌, ◌≤◌, length, slice_index};
 ghost use Rattle.std.specs.List.Sorted.{IsStrictlyIncreasing};
-ghost use Rattle.prt_fib.specs.Places.{AreBlocks, IsPlace};
-
-use std::alloc::{AllocError, Global};
-
-/// Finds the place of the last start at the number or before it, from this place on.
-fn place_from(starts: &[u32], place: usize, n: u64) -> usize
-    requires within { place < length starts.now }
-    requires from { slice_index starts.now place ≤ n }
-    ensures { IsPlace starts.now n result }
-{
-    let mut place = place;
-    while place + 1 < starts.len() && u64::from(starts[place + 1]) <= n {
-        place += 1;
-    }
-    place
-}
-
-/// Makes a list of the places of the first address of each block of 65,536 addresses, and of the number after all of them.
-pub(crate) fn directory_of(alloc: Global, starts: &[u32]) -> Result<Vec<u32>, AllocError>
-    requires some { 0 < length starts.now }
-    requires fits { length starts.now ≤ 2 ^ 32 }
-    requires zero { slice_index starts.now 0 ≡ 0 }
-    ensures { IfOk result (λ directory. AreBlocks starts.now directory.items) }
-{
-    let mut directory = Vec::with_capacity(alloc, 65_537)?;
-    let mut place = 0;
-    for block in 0..65_537u64 {
-        place = place_from(starts, place, block * 65_536);
-        directory.push(place as u32)?;
-    }
-    Ok(directory)
-}
+ghost use Rattle.prt_fib.specs.Places.{AreBlocks, AreStartsFrom, IsCount, IsPlace};
 
 /// Finds the place of the last start at the address or before it, which is one of those between the two, or is both.
 pub(crate) fn place_between(starts: &[u32], low: u32, high: u32, addr: u32) -> u32
@@ -54,4 +23,39 @@ pub(crate) fn place_between(starts: &[u32], low: u32, high: u32, addr: u32) -> u
         }
     }
     low
+}
+
+/// Counts the starts below the number.
+pub(crate) fn count_below(starts: &[u32], n: u64) -> usize
+    requires { IsStrictlyIncreasing starts.now }
+    ensures { IsCount starts.now n result }
+{
+    let mut low = 0;
+    let mut high = starts.len();
+    while low < high {
+        let middle = low + (high - low) / 2;
+        if u64::from(starts[middle]) < n {
+            low = middle + 1;
+        } else {
+            high = middle;
+        }
+    }
+    low
+}
+
+/// Makes a list of the places of the first address of each block of 65,536 addresses, and of the last place.
+pub(crate) fn directory_of(starts: &[u32], base: u32) -> [u32; 257]
+    requires starts { AreStartsFrom base starts.now }
+    requires base { base ≤ 4278190080 }
+    requires fits { length starts.now ≤ 16777216 }
+    ensures { AreBlocks base starts.now result }
+{
+    let last = (starts.len() - 1) as u32;
+    let mut directory = [last; 257];
+    let mut place = 0;
+    for block in 0..256u32 {
+        place = place_between(starts, place, last, base + block * 65_536);
+        directory[block as usize] = place;
+    }
+    directory
 }

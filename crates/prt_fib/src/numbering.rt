@@ -1,21 +1,45 @@
-//! The numbers of spans' outcomes.
-ghost use Rattle.std.specs.Prelude.{◌≡◌, ◌⊎◌, ◌<◌, IfErr, IfOk, OnOk, length};
+//! The numbers of the outcomes at starts.
+ghost use Rattle.std.specs.Prelude.{◌≡◌, ◌⊎◌, ◌<◌, ℕ, IfErr, IfOk, OnOk, length, slice_index};
 ghost use Rattle.prt_refusals.specs.declared.refusal.Refusal.TheVariants.{Full, NoMemory};
-ghost use Rattle.prt_fib.specs.Fib.{AreDistinct};
+ghost use Rattle.prt_partition.specs.Cuts.{to};
+ghost use Rattle.prt_fib.specs.Fib.{HasTooMany, outcome_to};
 ghost use Rattle.prt_fib.specs.Hashes.{IsIndex, hash_of};
-ghost use Rattle.prt_fib.specs.Numbers.{AreNumbered, AreRising, HaveMany, IsAppended, IsLeftOut, IsNumber};
+ghost use Rattle.prt_fib.specs.Numbers.{AreNumbered, IsLeftOut, IsNumber};
 
 use crate::hashing::{HASHES, append_outcome, search};
-use prt_partition::{Outcome, Span, outcome_of};
+use crate::outcomes::Outcomes;
+use prt_addr::Addr;
+use prt_partition::{Outcome, outcome_of};
 use prt_refusals::Refusal;
-use std::alloc::{AllocError, Global};
+use prt_rule::Packet;
+use prt_version::Version;
+use std::alloc::Global;
 
-/// Starts of spans with the numbers of their outcomes, and the outcomes by their numbers.
+/// Makes the packet that differs in its destination alone.
+pub(crate) fn to(packet: &Packet, dst: Addr) -> Packet
+    ensures { result ≡ to packet.now dst.0 }
+{
+    Packet {
+        dst,
+        src: packet.src,
+        iif: packet.iif,
+        mark: packet.mark,
+    }
+}
+
+/// Finds what becomes of the packet to this destination.
+pub(crate) fn outcome_to(version: &Version, packet: &Packet, dst: u32) -> Outcome
+    ensures { result ≡ outcome_to version.now packet.now dst }
+{
+    let answer = version.select(&to(packet, Addr(dst)));
+    outcome_of(&answer.verdict)
+}
+
+/// The numbers of starts, and the outcomes by their numbers.
 #[derive(Drop)]
 pub(crate) struct Numbered {
-    pub(crate) starts: Vec<u32>,
     pub(crate) numbers: Vec<u16>,
-    pub(crate) outcomes: Vec<Outcome>,
+    pub(crate) outcomes: Outcomes,
 }
 
 /// Finds the number of an outcome, which is appended if it has none.
@@ -45,49 +69,31 @@ fn number_of(
     Ok(place as u16)
 }
 
-/// Appends a start with the number of its outcome, unless the last start has the same number.
-fn append_start(
-    starts: &mut Vec<u32>,
-    numbers: &mut Vec<u16>,
-    first: u32,
-    number: u16,
-) -> Result<(), AllocError>
-    ensures { OnOk result (IsAppended starts.old.items numbers.old.items first number starts.new.items numbers.new.items) }
-{
-    let len = numbers.len();
-    if len > 0 && numbers[len - 1] == number {
-        return Ok(());
-    }
-    starts.push(first)?;
-    numbers.push(number)?;
-    Ok(())
-}
-
-/// Numbers the outcomes of spans, and merges neighbours that have one outcome.
+/// Numbers what becomes of the packet at each of the starts.
 ///
 /// # Errors
 ///
-/// `Full` if there are more outcomes than 16 bits count. `NoMemory` may come before that.
-pub(crate) fn number_spans(alloc: Global, spans: &[Span]) -> Result<Numbered, Refusal>
-    requires { AreRising spans.now }
-    ensures value { IfOk result (λ made. AreNumbered spans.now made.starts.items made.numbers.items made.outcomes.items) }
-    ensures distinct { IfOk result (λ made. AreDistinct made.outcomes.items) }
-    ensures reason { IfErr result (λ reason. ((reason ≡ Full) × HaveMany spans.now) ⊎ (reason ≡ NoMemory)) }
+/// `Full` if the packet has more outcomes than 16 bits count. `NoMemory` may come before that.
+pub(crate) fn number_starts(
+    alloc: Global,
+    version: &Version,
+    packet: &Packet,
+    starts: &[u32],
+) -> Result<Numbered, Refusal>
+    ensures value { IfOk result (λ made. AreNumbered version.now packet.now starts.now made.numbers.items made.outcomes) }
+    ensures reason { IfErr result (λ reason. ((reason ≡ Full) × HasTooMany version.now packet.now) ⊎ (reason ≡ NoMemory)) }
 {
-    let mut starts = Vec::new(alloc);
-    let mut numbers = Vec::new(alloc);
+    let mut numbers = Vec::with_capacity(alloc, starts.len())?;
     let mut outcomes = Vec::new(alloc);
     let mut heads = Vec::from_elem(alloc, 0u32, HASHES)?;
     let mut next = Vec::new(alloc);
-    for span in spans {
-        let first = span.first.0;
-        let outcome = outcome_of(&span.verdict);
+    for start in starts {
+        let outcome = outcome_to(version, packet, *start);
         let number = number_of(&mut outcomes, &mut heads, &mut next, &outcome)?;
-        append_start(&mut starts, &mut numbers, first, number)?;
+        numbers.push(number)?;
     }
     Ok(Numbered {
-        starts,
         numbers,
-        outcomes,
+        outcomes: Outcomes::of(outcomes, heads, next),
     })
 }

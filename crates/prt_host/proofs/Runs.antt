@@ -15,16 +15,19 @@ use Rattle.prt_store.proofs.Exits.{found_is}
 use Rattle.prt_store.proofs.Spelled.{stored_there}
 use Rattle.prt_store.specs.Exits.{IsKnown, Spells}
 use Rattle.prt_version.specs.State.{State}
-use Rattle.prt_words.specs.Invocation.{Invocation}
+use Rattle.prt_words.specs.Invocation.{Invocation, Submission}
+use Rattle.prt_words.specs.Places.{IsPlace}
 use Rattle.prt_words.specs.Read.{IsServiceIn}
 use Rattle.prt_words.specs.Tasks.{IsServing}
 use Rattle.prt_words.specs.declared.fault.Fault.{Fault}
 use Rattle.prt_words.specs.declared.fault.TheConstants.{DONE, FAULT}
+use Rattle.prt_words.specs.declared.server_place.ServerPlace.{ServerPlace}
 use Rattle.prt_words.specs.declared.serving.Serving.{Serving}
 use Rattle.prt_questions.specs.Closing.{LeavesNoneOpen}
-use Rattle.prt_host.specs.Runs.{AskedIsFound, Asks, FindsAgain, RunBegins, RunIsFound, RunsPrt, Serves, ServiceIsFound, is_misused, is_stopped, runs, tells}
+use Rattle.prt_host.specs.Runs.{AskedIsFound, Asks, FindsAgain, RunBegins, RunIsFound, RunsPrt, Serves, ServiceIsFound, Submits, is_misused, is_stopped, runs, tells}
 use Rattle.prt_host.specs.Serving.{IsNotServed, IsServed, IsServedBy}
 use Rattle.prt_questions.specs.Sources.{Sources}
+use Rattle.prt_questions.specs.Submitting.{IsAllMade, IsSubmitted}
 use Rattle.prt_questions.specs.declared.machine.Wanted.{Wanted}
 use Rattle.prt_questions.specs.declared.machine.Wanted.TheVariants.{Any}
 use Rattle.prt_questions.proofs.Alone.{RunsRound, runs_alone, runs_nothing_alone}
@@ -57,6 +60,16 @@ pub asks_from : {D M S : Type 0} (g : Ghosts S) (opens : Wanted → M → M → 
 asks_from {D} g opens refuses closes old new words before after same input0 input unread from writer0 writer status ended =
     subst (λ (d : D). Asks g opens refuses closes old new words (from d input0) writer0 writer status) same
     (subst (λ (i : Option (List ℕ)). Asks g opens refuses closes old new words (from after i) writer0 writer status) unread ended)
+
+-- a script was sent from what it was handed, which is what the program was
+pub submits_from : {D : Type 0} (script : Submission) (place : ServerPlace) → IsPlace script.server place → (before after : D) → after ≡ before → (input0 input : Option (List ℕ)) → input ≡ input0
+    → (from : D → Option (List ℕ) → Sources) (writer_mid writer0 writer : Option (List ℕ)) → writer_mid ≡ writer0 → (status : ℕ) → IsSubmitted (from after input) place script.file writer_mid writer status
+    → (status ≡ DONE → IsAllMade (from after input) place script.file writer_mid writer) → Submits script (from before input0) writer0 writer status
+submits_from {D} script place named before after same input0 input unread from writer_mid writer0 writer unwritten status run whole =
+    let ended : Submits script (from after input) writer_mid writer status = record { place = place; named = named; run = run; whole = whole } in
+    subst (λ (d : D). Submits script (from d input0) writer0 writer status) same
+    (subst (λ (i : Option (List ℕ)). Submits script (from after i) writer0 writer status) unread
+    (subst (λ (w : Option (List ℕ)). Submits script (from after input) w writer status) unwritten ended))
 
 -- ---- a server that ended with a fault
 

@@ -14,21 +14,31 @@ use Rattle.prt_store.specs.Exits.{IsKnown}
 use Rattle.prt_version.specs.State.{State}
 use Rattle.prt_words.specs.Read.{IsQuestionIn, IsServiceIn}
 use Rattle.prt_words.specs.Tasks.{IsServing}
-use Rattle.prt_words.specs.Invocation.{Invocation, ask, serve}
+use Rattle.prt_words.specs.Invocation.{Invocation, Submission, ask, serve, submit}
+use Rattle.prt_words.specs.Places.{IsPlace}
 use Rattle.prt_words.specs.declared.fault.TheConstants.{DONE, FAULT}
 use Rattle.prt_words.specs.declared.asking.Asked.{Asked}
 use Rattle.prt_words.specs.declared.serving.Serving.{Serving}
+use Rattle.prt_words.specs.declared.server_place.ServerPlace.{ServerPlace}
 use Rattle.prt_words.specs.declared.task.Mode.{Mode}
 use Rattle.prt_questions.specs.Closing.{LeavesNoneOpen}
 use Rattle.prt_questions.specs.Done.{IsDone, IsDoneAtMost, IsFound}
 use Rattle.prt_questions.specs.Sessions.{RunsOverMachine}
 use Rattle.prt_questions.specs.Sources.{Sources}
+use Rattle.prt_questions.specs.Submitting.{IsAllMade, IsSubmitted}
 use Rattle.prt_questions.specs.declared.machine.Wanted.{Wanted}
 use Rattle.prt_questions.specs.declared.machine.Wanted.TheVariants.{Any}
 use Rattle.prt_host.specs.Serving.{HasServed, IsServed, IsServedBy}
 use Rattle.prt_questions.specs.declared.asking.TheConstants.{REFUSED}
 use Rattle.prt_questions.specs.declared.asserting.TheConstants.{UNREADABLE}
 use Rattle.prt_questions.specs.declared.status.TheConstants.{CLOSED}
+
+-- The script that the words name was read from these sources, and what is replied to it was written; this is the exit status. If it says that all is well, no line is refused, and a server at the place that they name accepted each command.
+pub record Submits (script : Submission) (from : Sources) (writer0 writer : Option (List ℕ)) (status : ℕ) : Type 0 where
+  pub place : ServerPlace
+  pub named : IsPlace script.server place
+  pub run : IsSubmitted from place script.file writer0 writer status
+  pub whole : status ≡ DONE → IsAllMade from place script.file writer0 writer
 
 module _ {M S : Type 0} (g : Ghosts S) (opens : Wanted → M → M → List ℕ → Held S → Type 0) (refuses : Wanted → M → M → List ℕ → Type 0) (closes : M → M → Held S → Type 0) (old new : M) where
   -- The database at a path was opened, served and closed; or it was refused, and no other was touched. This is the exit status. If it says that all is well, what was left has each command that a worker replied `ok N` to, at the number N.
@@ -60,6 +70,8 @@ module _ {M S : Type 0} (g : Ghosts S) (opens : Wanted → M → M → List ℕ 
     is_stopped : IsStopped (λ old new path reason. LeavesNoneOpen (opens Any) (refuses Any) closes g reason old new path) old new asked streams.output_before streams.output_after status → RunsPrt bytes from asked streams status
     -- the sessions were served that the words ask for
     serves : (words : List Word) → asked ≡ serve words → Serves words status → RunsPrt bytes from asked streams status
+    -- a server was to run the script that the words name, and no database was touched
+    submits : (script : Submission) → asked ≡ submit script → new ≡ old → Submits script from streams.output_before streams.output_after status → RunsPrt bytes from asked streams status
     -- the question was answered that the words ask
     answers : (words : List Word) → asked ≡ ask words → Asks words from streams.output_before streams.output_after status → RunsPrt bytes from asked streams status
 

@@ -9,7 +9,7 @@ use crate::server::serve;
 use crate::status::Measures;
 use crate::telling::tell_failure;
 use prt_program::{Next, Noting, ReadFiles, program};
-use prt_questions::{DatabaseFiles, Machine, answer_question};
+use prt_questions::{DatabaseFiles, Machine, answer_question, submit_script};
 use sqlite::{Alter, Connection};
 use std::alloc::Global;
 use std::fs::Files;
@@ -18,8 +18,8 @@ use std::rt::Clock;
 use std::sync::Wait;
 use std::thread::Threads;
 
-/// Runs the program with these words over the databases of a machine, or serves, or answers a question, and returns its exit
-/// status.
+/// Runs the program with these words over the databases of a machine, or serves, has a server run a script, or answers a
+/// question, and returns its exit status.
 ///
 /// A script, a check or a replay is run as `program` says, and no database is touched if none is asked for. Over a
 /// database the run begins with what its opening made of the connection that was found. Each state that a later opening
@@ -56,6 +56,13 @@ where
     match next {
         Next::Exit(status) => status,
         Next::Serve(serving) => serve(databases, alloc, &serving, output, errors),
+        Next::Submit(submitting) => {
+            let (files, rt) = (databases.files, databases.rt);
+            let status = submit_script(files, &rt, alloc, &submitting, input, output, &mut errors);
+            tell_failure(alloc, "standard input", input, &mut errors);
+            tell_failure(alloc, "standard output", output, &mut errors);
+            status
+        }
         Next::Ask(asked) => {
             let status = answer_question(databases, alloc, &asked, input, output, &mut errors);
             tell_failure(alloc, "standard output", output, &mut errors);

@@ -33,7 +33,6 @@ use Rattle.prt_publisher.specs.Step.{AreChecked, commands_checked}
 use Rattle.prt_publisher.specs.declared.checked.Checked.{Checked}
 use Rattle.prt_laws.specs.Registries.{registry_through}
 use Rattle.prt_laws.proofs.Woven.{only_committed}
-use Rattle.prt_publisher.proofs.Checks.{checked_accepted}
 use Rattle.prt_publisher.proofs.Commits.{closed_stored}
 
 module _ {S : Type 0} (g : Ghosts S) where
@@ -248,4 +247,4 @@ module _ {S : Type 0} (g : Ghosts S) (old new : Standing (Held S)) where
 
     pub declines_full_checked : (why : Refusal) → why ≡ refusals.Busy → new ≡ old → MOST_RETIRED ≤ length r.retired → (event : Event) → AsksSome event → commands_checked checked ≡ asked event → DeclinesBy g old new true before r event why
     declines_full_checked why busy same full event some asks =
-        declines_full g old new same event some before r why ready (subst (IsAccepted (line_state old.line)) asks (checked_accepted (line_state old.line) checked are)) registry busy full
+        declines_full g old new same event some before r why ready (subst (IsAccepted (line_state old.line)) asks are.accepted) registry busy full

@@ -79,7 +79,7 @@ fn push_destination_cuts(cuts: &mut Vec<u32>, version: &Version) -> Result<(), A
 }
 
 /// Sorts the numbers, and keeps each of them once.
-pub(crate) fn sort_distinct(numbers: &mut Vec<u32>)
+pub fn sort_distinct(numbers: &mut Vec<u32>)
     ensures rises { IsStrictlyIncreasing numbers.new.items }
     ensures fit { All (λ n. n < 2 ^ 32) numbers.new.items }
     ensures fewer { length numbers.new.items ≤ length numbers.old.items }
@@ -91,7 +91,11 @@ pub(crate) fn sort_distinct(numbers: &mut Vec<u32>)
 }
 
 /// Lists the destinations at which an answer of the version can change, and 0.0.0.0, in order.
-pub(crate) fn starts_of(alloc: Global, version: &Version) -> Result<Vec<u32>, AllocError>
+///
+/// # Errors
+///
+/// Memory is refused.
+pub fn starts_of(alloc: Global, version: &Version) -> Result<Vec<u32>, AllocError>
     ensures { IfOk result (λ starts. AreStarts (destination_cuts version.now) starts.items) }
 {
     let mut starts = Vec::new(alloc);

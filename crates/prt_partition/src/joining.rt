@@ -29,7 +29,7 @@ pub(crate) fn takes_mark(given: &Option<Mark>, mark: u32) -> bool
 }
 
 /// Checks whether the rule's selector takes the packet, if its destination is left out. `not` doesn't matter.
-pub(crate) fn takes_apart(rule: &Rule, packet: &Packet) -> bool
+pub fn takes_apart(rule: &Rule, packet: &Packet) -> bool
     ensures { result ≡ takes_apart rule.now packet.now }
 {
     rule.from.contains(packet.src)

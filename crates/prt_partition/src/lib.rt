@@ -26,12 +26,14 @@ mod sameness;
 mod touching;
 
 pub use class_list::{classes, joined_classes};
+pub use cuts::{sort_distinct, starts_of};
 pub use destinations::{Span, spans};
 pub use differences::{Difference, changes};
 pub use differing::{Differing, is_same_everywhere, what_differs};
 pub use division::boxes;
 pub use equivalence::{find_change, rules_of_both};
 pub use interfaces::{fresh_name, names_of};
+pub use joining::takes_apart;
 pub use laws::{
     alike_go_alike, boxes_go_alike, changes_at_destination_cuts, changes_at_source_cuts,
     depends_on_what_takes_it, ids_only_order, routes_touch_their_prefixes,

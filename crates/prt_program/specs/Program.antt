@@ -15,10 +15,11 @@ use Rattle.prt_session.specs.Run.{RunIs}
 use Rattle.prt_session.specs.Stands.{StandsForSome}
 use Rattle.prt_version.specs.State.{State, opening_state}
 use Rattle.prt_program.specs.declared.next.Next.{Next}
-use Rattle.prt_program.specs.declared.next.Next.TheVariants.{Ask, Exit, Serve}
+use Rattle.prt_program.specs.declared.next.Next.TheVariants.{Ask, Exit, Serve, Submit}
 use Rattle.prt_replies.specs.declared.script_end.ScriptEnd.{ScriptEnd}
 use Rattle.prt_words.specs.declared.asking.Asked.{Asked}
 use Rattle.prt_words.specs.declared.serving.Serving.{Serving}
+use Rattle.prt_words.specs.declared.task.Submitting.{Submitting}
 use Rattle.prt_words.specs.declared.task.Mode.{Mode}
 use Rattle.prt_words.specs.declared.task.Mode.TheVariants.{InTurn, Together}
 
@@ -146,16 +147,26 @@ LeavesDatabases asked old new = database_of asked ≡ None → new ≡ old
 abbrev pub IfExit : (ℕ → Type 0) → Next → Type 0
 IfExit holds (Exit status) = holds status
 IfExit holds (Serve serving) = Unit {0}
+IfExit holds (Submit submitting) = Unit {0}
 IfExit holds (Ask asked) = Unit {0}
 
 -- of the sessions that are to be served, if they are asked for
 abbrev pub IfServe : (Serving → Type 0) → Next → Type 0
 IfServe holds (Exit status) = Unit {0}
 IfServe holds (Serve serving) = holds serving
+IfServe holds (Submit submitting) = Unit {0}
 IfServe holds (Ask asked) = Unit {0}
+
+-- of the script that goes to a server, if one does
+abbrev pub IfSubmit : (Submitting → Type 0) → Next → Type 0
+IfSubmit holds (Exit status) = Unit {0}
+IfSubmit holds (Serve serving) = Unit {0}
+IfSubmit holds (Submit submitting) = holds submitting
+IfSubmit holds (Ask asked) = Unit {0}
 
 -- of the question, if one is asked
 abbrev pub IfAsk : (Asked → Type 0) → Next → Type 0
 IfAsk holds (Exit status) = Unit {0}
 IfAsk holds (Serve serving) = Unit {0}
+IfAsk holds (Submit submitting) = Unit {0}
 IfAsk holds (Ask asked) = holds asked

@@ -10,9 +10,9 @@ mod prt;
 mod read_files;
 
 pub use databases::Databases;
-pub use messages::{cause_message, log_message, question_message};
+pub use messages::{Messages, cause_message, log_message, question_message};
 pub use next::Next;
 pub use noting::Noting;
-pub use prt::program;
+pub use prt::{buffered, exit_status, program};
 pub use prt_session::{Desk, Refusal, ScriptEnd};
 pub use read_files::ReadFiles;

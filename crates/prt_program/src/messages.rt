@@ -231,7 +231,7 @@ enum Language {
 ///
 /// A fault of the clock, of memory or of writing loses a message and changes nothing else.
 #[derive(Drop)]
-pub(crate) struct Messages<'a, E: Write + Drop, K: Clock + Drop> {
+pub struct Messages<'a, E: Write + Drop, K: Clock + Drop> {
     alloc: Global,
     errors: E,
     clock: K,
@@ -251,7 +251,7 @@ pub(crate) struct Messages<'a, E: Write + Drop, K: Clock + Drop> {
 
 impl<'a, E: Write + Drop, K: Clock + Drop> Messages<'a, E, K> {
     /// Makes messages to `errors`, which report nothing until they are turned on.
-    pub(crate) fn new(alloc: Global, errors: E, clock: K) -> Messages<'a, E, K> {
+    pub fn new(alloc: Global, errors: E, clock: K) -> Messages<'a, E, K> {
         Messages {
             alloc,
             errors,
@@ -268,7 +268,7 @@ impl<'a, E: Write + Drop, K: Clock + Drop> Messages<'a, E, K> {
     }
 
     /// Starts reporting what follows.
-    pub(crate) fn turn_on(&mut self) {
+    pub fn turn_on(&mut self) {
         if !self.is_on() {
             self.telling = Telling::On;
         }
@@ -282,7 +282,7 @@ impl<'a, E: Write + Drop, K: Clock + Drop> Messages<'a, E, K> {
     /// Begins to look on at a run of the script of this name, whose replies go to `output`.
     ///
     /// If that is a terminal, the replies show the progress themselves.
-    pub(crate) fn begin<W: IsTerminal>(&mut self, file: &'a str, output: &W) {
+    pub fn begin<W: IsTerminal>(&mut self, file: &'a str, output: &W) {
         self.file = file;
         if self.is_on() && !output.is_terminal() {
             self.begun = Instant::now(&self.clock).ok();
@@ -290,13 +290,13 @@ impl<'a, E: Write + Drop, K: Clock + Drop> Messages<'a, E, K> {
     }
 
     /// Begins to look on at a replay of the file of this name, of which at most the refused line is reported.
-    pub(crate) fn begin_replay(&mut self, file: &'a str) {
+    pub fn begin_replay(&mut self, file: &'a str) {
         self.file = file;
         self.language = Language::Events;
     }
 
     /// Keeps why a file could not be opened.
-    pub(crate) fn keep_cause<D: Display>(&mut self, path: &str, reason: &D) {
+    pub fn keep_cause<D: Display>(&mut self, path: &str, reason: &D) {
         self.cause = cause_message(self.alloc, &path, reason).ok();
     }
 
@@ -308,7 +308,7 @@ impl<'a, E: Write + Drop, K: Clock + Drop> Messages<'a, E, K> {
     }
 
     /// Reports why nothing is run, and returns the exit status for that.
-    pub(crate) fn report<W: Write>(&mut self, fault: &Fault, output: &mut W) -> u8
+    pub fn report<W: Write>(&mut self, fault: &Fault, output: &mut W) -> u8
         ensures status { result ≡ fault_status fault.now }
         ensures unwritten { result ≢ DONE → W.contents output.new ≡ W.contents output.old }
     {
@@ -318,7 +318,7 @@ impl<'a, E: Write + Drop, K: Clock + Drop> Messages<'a, E, K> {
     }
 
     /// Reports why a file could not be read to its end, if it failed.
-    pub(crate) fn tell_failure<S>(&mut self, file: &str, stream: &Noting<S>) {
+    pub fn tell_failure<S>(&mut self, file: &str, stream: &Noting<S>) {
         if let Some(error) = stream.error() {
             self.wipe();
             self.write(cause_message(self.alloc, &file, error));
@@ -326,15 +326,21 @@ impl<'a, E: Write + Drop, K: Clock + Drop> Messages<'a, E, K> {
     }
 
     /// Reports why a commit to the database at a path failed, if one did.
-    pub(crate) fn tell_commit<D: Display>(&mut self, path: &str, failure: &Option<D>) {
+    pub fn tell_commit<D: Display>(&mut self, path: &str, failure: &Option<D>) {
         if let Some(reason) = failure {
             self.wipe();
             self.write(cause_message(self.alloc, &path, reason));
         }
     }
 
+    /// Reports what befell what a run needs, unless there was no memory for the text.
+    pub fn tell(&mut self, message: Result<String, AllocError>) {
+        self.wipe();
+        self.write(message);
+    }
+
     /// Reports why the log of the database at a path could not be moved into its file, if that failed.
-    pub(crate) fn tell_closing<D: Display>(&mut self, path: &str, closed: &Result<(), D>) {
+    pub fn tell_closing<D: Display>(&mut self, path: &str, closed: &Result<(), D>) {
         if let Err(reason) = closed {
             self.wipe();
             self.write(log_message(self.alloc, path, reason));
@@ -392,7 +398,7 @@ impl<'a, E: Write + Drop, K: Clock + Drop> Messages<'a, E, K> {
     }
 
     /// Counts a refusal of commands that were to be made together, since that is reported of no line.
-    pub(crate) fn count_refusal(&mut self, end: ScriptEnd) {
+    pub fn count_refusal(&mut self, end: ScriptEnd) {
         let is_refused = end.refused
             || matches!(
                 end.fault,
@@ -404,7 +410,7 @@ impl<'a, E: Write + Drop, K: Clock + Drop> Messages<'a, E, K> {
     }
 
     /// Reports at the end of a run how many lines there were.
-    pub(crate) fn finish(&mut self) {
+    pub fn finish(&mut self) {
         if self.is_on() {
             self.wipe();
             self.write(total_message(self.alloc, self.lines, self.refused));

@@ -1,6 +1,6 @@
 //! What is left to do after the program.
 
-use prt_words::{Asked, Serving};
+use prt_words::{Asked, Serving, Submitting};
 
 /// What is left to do after the program.
 #[derive(Drop)]
@@ -9,6 +9,8 @@ pub enum Next<'a> {
     Exit(u8),
     /// To serve these sessions. Nothing was opened, read or written yet.
     Serve(Serving<'a>),
+    /// To have a server run this script. Nothing was opened, read or written yet.
+    Submit(Submitting<'a>),
     /// To answer this question. Nothing was opened, read or written yet.
     Ask(Asked<'a>),
 }

@@ -5,14 +5,15 @@ ghost use Rattle.prt_refusals.specs.Opening.{IsOpenRefusal};
 ghost use Rattle.prt_refusals.specs.declared.refusal.Refusal.{Refusal};
 ghost use Rattle.prt_refusals.specs.declared.refusal.Refusal.TheVariants.{NoMemory, ReadFault};
 ghost use Rattle.prt_program.specs.Faults.{IsDatabaseFault, IsFault, IsOpening, IsScriptFault, database_of};
-ghost use Rattle.prt_program.specs.Program.{IfAsk, IfExit, IfServe, IsUntouched, LeavesDatabases, LeavesInput, LeavesInputFor, Runs, RunsAt, RunsBatch, RunsCheck, RunsNothing, RunsOn, RunsOver, RunsReplay, SessionIs, exit_status, streams_of};
+ghost use Rattle.prt_program.specs.Program.{IfAsk, IfExit, IfServe, IfSubmit, IsUntouched, LeavesDatabases, LeavesInput, LeavesInputFor, Runs, RunsAt, RunsBatch, RunsCheck, RunsNothing, RunsOn, RunsOver, RunsReplay, SessionIs, exit_status, streams_of};
 ghost use Rattle.prt_session.specs.Open.{IsOpenOn};
 ghost use Rattle.prt_session.specs.Stands.{Explained, StandsForSome};
 ghost use Rattle.prt_version.specs.State.{State};
 ghost use Rattle.prt_words.specs.Read.{IsQuestionIn, IsServiceIn};
-ghost use Rattle.prt_words.specs.Tasks.{IsServing};
+ghost use Rattle.prt_words.specs.Tasks.{IsAskedFor, IsServing};
 ghost use Rattle.prt_words.specs.Invocation.{arguments, ask, invocation, serve};
 ghost use Rattle.prt_words.specs.declared.fault.Fault.TheVariants.{Opening};
+ghost use Rattle.prt_words.specs.declared.task.Task.TheVariants.{Submit};
 
 use crate::databases::Databases;
 use crate::host::{Host, HostOf, Surroundings};
@@ -33,7 +34,7 @@ use std::rt::Clock;
 const REFUSED: u8 = 1;
 
 /// Chooses the exit status of a run.
-fn exit_status(end: ScriptEnd) -> u8
+pub fn exit_status(end: ScriptEnd) -> u8
     ensures { result ≡ exit_status end }
 {
     match end.fault {
@@ -109,7 +110,7 @@ fn open_database<D: Databases, E: Write + Drop, K: Clock + Drop>(
 /// # Errors
 ///
 /// `Opening` with `NoMemory`.
-fn buffered<R: Read + Drop>(alloc: Global, input: R) -> Result<BufReader<R>, Fault>
+pub fn buffered<R: Read + Drop>(alloc: Global, input: R) -> Result<BufReader<R>, Fault>
     ensures bytes { IfOk result (λ reader. reader_remaining R.remaining reader ≡ R.remaining input) }
     ensures fault { IfErr result (λ fault. fault ≡ Opening NoMemory) }
 {
@@ -288,8 +289,8 @@ fn replay_of<'a, H: Host, R: Read>(
     }
 }
 
-/// Runs what the words ask for, and returns the exit status of the run. Sessions that are to be served, and a question, are
-/// handed back.
+/// Runs what the words ask for, and returns the exit status of the run. Sessions that are to be served, a script for a server,
+/// and a question are handed back.
 fn run_words<'a, H: Host, R: Read>(
     around: &mut Surroundings<'_, '_, H>,
     words: &'a [String],
@@ -299,6 +300,7 @@ fn run_words<'a, H: Host, R: Read>(
     ensures run { IfOk result (IfExit (Runs H.Files.Opened.remaining (RunsAt H.Databases.holds H.Databases.opens H.Databases.closed H.Databases.leaves H.Databases.Opened.stands H.Databases.Opened.keeps H.Databases.Opened.may around.old.databases.now around.new.databases.now)
         (invocation (arguments words.now)) (streams_of (R.remaining input.old) (H.Output.contents around.old.output.now) (H.Output.contents around.new.output.now)))) }
     ensures serve { IfOk result (IfServe (λ serving. (invocation (arguments words.now) ≡ serve (arguments words.now)) × IsServing serving × IsServiceIn (arguments words.now) serving × (H.Output.contents around.new.output.now ≡ H.Output.contents around.old.output.now))) }
+    ensures submit { IfOk result (IfSubmit (λ submitting. IsAskedFor (arguments words.now) (invocation (arguments words.now)) (Submit submitting) × (H.Output.contents around.new.output.now ≡ H.Output.contents around.old.output.now))) }
     ensures ask { IfOk result (IfAsk (λ asked. (invocation (arguments words.now) ≡ ask (arguments words.now)) × IsQuestionIn (arguments words.now) asked × (H.Output.contents around.new.output.now ≡ H.Output.contents around.old.output.now))) }
     ensures unread { LeavesInput (invocation (arguments words.now)) (R.remaining input.old) (R.remaining input.new) }
     ensures fault { IfErr result (IsFault (invocation (arguments words.now))) }
@@ -322,6 +324,7 @@ fn run_words<'a, H: Host, R: Read>(
             Ok(Next::Exit(status))
         }
         Task::Serve(serving) => Ok(Next::Serve(serving)),
+        Task::Submit(submitting) => Ok(Next::Submit(submitting)),
         Task::Ask(asked) => Ok(Next::Ask(asked)),
     }
 }
@@ -331,8 +334,8 @@ fn run_words<'a, H: Host, R: Read>(
 /// `batch [--force | --atomic] [--db PATH] [--verbose] [FILE]` runs a script over the database at PATH or a new one in
 /// memory; with `--atomic` all its changes are made together or none.
 /// `check [FILE]` says which of its lines would be refused as they are, and `replay [FILE]` replays a list of events.
-/// If a FILE is named, `input` is not read. Of `serve` and of a question (such as `get`) the words
-/// are read and handed back; nothing is written then, and no database touched.
+/// If a FILE is named, `input` is not read. Of `serve`, of `batch` with `--server`, and of a question (such as `get`) the
+/// words are read and handed back; nothing is written then, and no database touched.
 ///
 /// Without `--db` no database is opened. With it the one at PATH is opened, closed as the session left it, and nothing
 /// else is done to any database. Each state that a later opening may find there is one that the session, which began with
@@ -360,6 +363,7 @@ pub fn program<
         (invocation (arguments words.now)) (streams_of (R.remaining input.old) (W.contents output.old) (W.contents output.new)) status
         ⊎ RunsNothing D.refuses databases.old databases.new (invocation (arguments words.now)) (W.contents output.old) (W.contents output.new) status) result }
     ensures serve { IfServe (λ serving. (invocation (arguments words.now) ≡ serve (arguments words.now)) × IsServing serving × IsServiceIn (arguments words.now) serving × (W.contents output.new ≡ W.contents output.old)) result }
+    ensures submit { IfSubmit (λ submitting. IsAskedFor (arguments words.now) (invocation (arguments words.now)) (Submit submitting) × (W.contents output.new ≡ W.contents output.old)) result }
     ensures ask { IfAsk (λ asked. (invocation (arguments words.now) ≡ ask (arguments words.now)) × IsQuestionIn (arguments words.now) asked × (W.contents output.new ≡ W.contents output.old)) result }
     ensures unread { LeavesInput (invocation (arguments words.now)) (R.remaining input.old) (R.remaining input.new) }
     ensures unopened { LeavesDatabases (invocation (arguments words.now)) databases.old databases.new }

@@ -1,3 +1,4 @@
+pub mod ChangeSet
 pub mod Standing
 pub mod Exits
 pub mod Step

@@ -1,5 +1,5 @@
 -- What a publisher keeps of the commands under way.
-use Rattle.std.specs.Prelude.{◌≡◌, ◌+◌, ◌≤◌, ◌++◌, All, List, [], ◌∷◌, length, Option, None, Some, Ok}
+use Rattle.std.specs.Prelude.{◌≡◌, ◌+◌, ◌≤◌, All, List, [], ◌∷◌, length, None, Some, Ok}
 use Rattle.std.specs.Arc.{arc_value}
 use Rattle.prt_command.specs.Storable.{IsStorable}
 use Rattle.prt_command.specs.declared.request.Command.{Command}
@@ -8,7 +8,8 @@ use Rattle.prt_version.specs.Change.{check, fold}
 use Rattle.prt_version.specs.Sound.{IsSound}
 use Rattle.prt_version.specs.State.{State}
 use Rattle.prt_publisher.specs.declared.checked.Checked.{Checked}
-use Rattle.prt_publisher.specs.declared.checked.Earlier.{Earlier}
+use Rattle.prt_publisher.specs.declared.checked.CheckedCommands.{CheckedCommands}
+use Rattle.prt_publisher.specs.declared.checked.CheckedCommands.TheVariants.{One, Several}
 use Rattle.prt_publisher.specs.declared.phase.Phase.{Phase}
 use Rattle.prt_publisher.specs.declared.phase.Phase.TheVariants as phase
 use Rattle.prt_publisher.specs.declared.plan.Plan.{Plan}
@@ -17,26 +18,25 @@ use Rattle.prt_publisher.specs.declared.publisher.Step.TheVariants.{Ready, Admit
 
 -- ---- commands that were checked
 
+abbrev pub commands_in : CheckedCommands → List Command
+commands_in (One command change) = command ∷ []
+commands_in (Several set) = set.commands
+
 abbrev pub commands_checked : Checked → List Command
-commands_checked checked = checked.earlier.commands.items ++ checked.command ∷ []
+commands_checked checked = commands_in checked.commands
 
--- the version that the next command meets
-abbrev pub version_met : State → Option State → State
-version_met published None = published
-version_met published (Some version) = version
+-- the change of one command is the one that it makes of the state, and several are planned over it
+abbrev pub FitsState : State → CheckedCommands → Type 0
+FitsState published (One command change) = check published command ≡ Ok change
+FitsState published (Several set) = set.base ≡ published
 
--- The commands are refused for nothing, one after the other, and lead to the version that the next one meets.
-pub record LeadUp (published : State) (earlier : Earlier) : Type 0 where
-  pub accepted : IsAccepted published earlier.commands.items
-  pub changes : earlier.changes.items ≡ changes_of published earlier.commands.items
-  pub version : version_met published earlier.version ≡ fold published earlier.commands.items
-
--- The storable commands are refused for nothing, one after the other, and this is the change that the last one makes.
+-- The storable commands are refused for nothing, one after the other, and what was worked out for them is of the published state.
 pub record AreChecked (published : State) (checked : Checked) : Type 0 where
   pub sound : IsSound published
+  pub some : 1 ≤ length (commands_checked checked)
   pub storable : All IsStorable (commands_checked checked)
-  pub earlier : LeadUp published checked.earlier
-  pub makes : check (version_met published checked.earlier.version) checked.command ≡ Ok checked.change
+  pub accepted : IsAccepted published (commands_checked checked)
+  pub fits : FitsState published checked.commands
 
 -- ---- the step
 

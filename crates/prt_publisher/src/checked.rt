@@ -1,74 +1,45 @@
 //! Commands that are refused for nothing.
-ghost use Rattle.std.specs.Prelude.{◌≡◌, ◌≤◌, All, IfErr, IfOk, OnOk, Ok, length};
+ghost use Rattle.std.specs.Prelude.{◌≡◌, ◌≤◌, All, IfErr, IfOk, OnOk, length};
 ghost use Rattle.prt_command.specs.Storable.{IsStorable};
 ghost use Rattle.prt_publisher.specs.Exits.{AreRefused};
-ghost use Rattle.prt_publisher.specs.Step.{AreChecked, LeadUp, commands_checked, version_met};
-ghost use Rattle.prt_version.specs.Accepted.{IsAccepted, IsRefusedFor};
-ghost use Rattle.prt_version.specs.Change.{fold};
+ghost use Rattle.prt_publisher.specs.Step.{AreChecked, commands_checked};
+ghost use Rattle.prt_version.specs.Accepted.{IsAccepted};
 
+use crate::ChangeSet;
 use prt_command::{Command, Refusal};
 use prt_version::{Change, Version};
 
-/// Commands before another one, with their changes, and the version after them if there are some.
-#[derive(Drop)]
-pub(crate) struct Earlier {
-    pub(crate) commands: Vec<Command>,
-    pub(crate) changes: Vec<Change>,
-    pub(crate) version: Option<Version>,
-}
-
-/// Commands of which each is refused for nothing in the state after those before it. The version after the last of them is
-/// still to be made, and one command by itself takes no memory.
+/// Commands of which each is refused for nothing in the state after those before it.
 #[derive(Drop)]
 pub struct Checked {
-    pub(crate) earlier: Earlier,
-    pub(crate) command: Command,
-    pub(crate) change: Change,
+    pub(crate) commands: CheckedCommands,
 }
 
-/// Makes the commands before the last one.
-///
-/// # Errors
-///
-/// As of `Version::after_all`. If there are none, it can't fail.
-fn make_earlier(published: &Version, commands: &[Command]) -> Result<Earlier, Refusal>
-    ensures earlier { IfOk result (LeadUp published.now) }
-    ensures commands { IfOk result (λ earlier. earlier.commands.items ≡ commands.now) }
-    ensures accepted { OnOk result (IsAccepted published.now commands.now) }
-    ensures reason { IfErr result (λ why. IsRefusedFor published.now commands.now why × (1 ≤ length commands.now)) }
-{
-    let alloc = *published.shared_rules().allocator();
-    if commands.is_empty() {
-        return Ok(Earlier {
-            commands: Vec::new(alloc),
-            changes: Vec::new(alloc),
-            version: None,
-        });
-    }
-    let (changes, after) = match published.after_all(commands) {
-        Ok(made) => made,
-        Err(reason) => return Err(reason),
-    };
-    Ok(Earlier {
-        commands: Vec::from_slice(alloc, commands)?,
-        changes,
-        version: Some(after),
-    })
+#[derive(Drop)]
+pub(crate) enum CheckedCommands {
+    /// One, with its change. The version after it is still to be made: so it takes no memory before it is admitted.
+    One(Command, Change),
+    /// Several, with the version after them.
+    Several(ChangeSet),
 }
 
-impl Earlier {
-    /// Returns the version that the next command meets.
-    pub(crate) fn version<'a>(&'a self, published: &'a Version) -> &'a Version
-        ensures { result.now ≡ version_met published.now self.now.version }
+impl Checked {
+    /// Takes commands that are planned over the published version.
+    pub(crate) fn of_set(set: ChangeSet) -> Checked
+        requires { 1 ≤ length set.commands }
+        ensures checked { AreChecked set.base result }
+        ensures commands { commands_checked result ≡ set.commands }
     {
-        match &self.version {
-            Some(version) => version,
-            None => published,
+        // Recalls that the version is sound, and the commands are accepted.
+        let _number = set.base().number();
+        let _commands = set.commands();
+        Checked {
+            commands: CheckedCommands::Several(set),
         }
     }
 }
 
-/// Checks commands, each on the version after those before it.
+/// Checks commands, each on the version after those before it. One by itself takes no memory.
 ///
 /// # Errors
 ///
@@ -81,20 +52,20 @@ pub(crate) fn check_all(published: &Version, commands: &[Command]) -> Result<Che
     ensures accepted { OnOk result (IsAccepted published.now commands.now) }
     ensures reason { IfErr result (AreRefused published.now commands.now) }
 {
-    // Recalls that the version is sound.
-    let _number = published.number();
-    let Some((last, before)) = commands.split_last() else {
+    if commands.len() > 1 {
+        return match ChangeSet::of_all(published, commands) {
+            Ok(set) => Ok(Checked::of_set(set)),
+            Err(reason) => Err(reason),
+        };
+    }
+    let [command] = commands else {
         unreachable!();
     };
-    let earlier = match make_earlier(published, before) {
-        Ok(earlier) => earlier,
-        Err(reason) => return Err(reason),
-    };
-    match earlier.version(published).check(last) {
+    // Recalls that the version is sound.
+    let _number = published.number();
+    match published.check(command) {
         Ok(change) => Ok(Checked {
-            earlier,
-            command: *last,
-            change,
+            commands: CheckedCommands::One(*command, change),
         }),
         Err(reason) => Err(reason),
     }

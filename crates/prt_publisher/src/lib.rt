@@ -1,6 +1,7 @@
 //! The publisher: commands are checked, committed, published and noted, and only then acknowledged.
 #![tactic(auto)]
 
+mod change_set;
 mod checked;
 mod connected;
 mod opening;
@@ -10,6 +11,7 @@ mod publisher;
 mod receipt;
 mod seats;
 
+pub use change_set::ChangeSet;
 pub use checked::Checked;
 pub use connected::publisher_over;
 pub use phase::Phase;

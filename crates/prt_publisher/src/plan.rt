@@ -4,8 +4,8 @@ ghost use Rattle.std.specs.Arc.{arc_value};
 ghost use Rattle.prt_refusals.specs.declared.refusal.Refusal.TheVariants.{NoMemory};
 ghost use Rattle.prt_publisher.specs.Step.{AreChecked, IsPlan, commands_checked};
 
-use crate::Checked;
-use crate::checked::Earlier;
+use crate::checked::CheckedCommands;
+use crate::{ChangeSet, Checked};
 use prt_command::{Command, Refusal};
 use prt_front::Front;
 use prt_version::{Change, Version};
@@ -36,6 +36,31 @@ pub(crate) fn owners(
     Ok((first, second, third))
 }
 
+/// Plans checked commands.
+///
+/// # Errors
+///
+/// `NoMemory`.
+fn plan_checked(published: &Version, checked: Checked) -> Result<ChangeSet, Refusal>
+    requires { AreChecked published.now checked }
+    ensures value { IfOk result (λ set. set ≡ record { base = published.now; commands = commands_checked checked }) }
+    ensures reason { IfErr result (λ reason. reason ≡ NoMemory) }
+{
+    match checked.commands {
+        CheckedCommands::One(command, change) => {
+            let mut set = match ChangeSet::new(published) {
+                Ok(set) => set,
+                Err(reason) => return Err(reason),
+            };
+            match set.add_checked(&command, change) {
+                Ok(()) => Ok(set),
+                Err(reason) => Err(reason),
+            }
+        }
+        CheckedCommands::Several(set) => Ok(set),
+    }
+}
+
 /// Makes what checked commands need to be published, with all memory that they need after their commit.
 ///
 /// # Errors
@@ -48,20 +73,12 @@ fn make_plan(published: &Version, checked: Checked) -> Result<Plan, Refusal>
     ensures reason { IfErr result (λ reason. reason ≡ NoMemory) }
 {
     let alloc = *published.shared_rules().allocator();
-    let Checked {
-        earlier,
-        command,
-        change,
-    } = checked;
-    let last = earlier.version(published).next(&change)?;
+    let set = match plan_checked(published, checked) {
+        Ok(set) => set,
+        Err(reason) => return Err(reason),
+    };
+    let (commands, changes, last) = set.into_parts();
     let (next, shown, noted) = owners(alloc, last)?;
-    let Earlier {
-        mut commands,
-        mut changes,
-        version: _,
-    } = earlier;
-    commands.push(command)?;
-    changes.push(change)?;
     Ok(Plan {
         commands,
         changes,

@@ -28,7 +28,7 @@ ghost use Rattle.prt_version.specs.State.{State};
 use crate::checked::check_all;
 use crate::opening::open;
 use crate::plan::{Plan, plan_shown};
-use crate::{Checked, Phase, Receipt, Seats};
+use crate::{ChangeSet, Checked, Phase, Receipt, Seats};
 use prt_command::{Command, Refusal};
 use prt_front::{Front, Known, Told};
 use prt_grace::{Domain, Keeper, LockedRegistry};
@@ -445,10 +445,29 @@ impl<S: Alter + Drop> Publisher<S> {
         ensures err { IfErr result (λ reason. (self.new ≡ self.old) × AreNotPrepared self.old.phase (line_state self.old.line) commands.now reason) }
         ensures stands { Stands S.Store self.new }
     {
-        let checked = match self.check_all(commands) {
-            Ok(checked) => checked,
-            Err(reason) => return Err(reason),
-        };
+        match self.check_all(commands) {
+            Ok(checked) => self.prepare_checked(rt, domain, checked),
+            Err(reason) => Err(reason),
+        }
+    }
+
+    /// Admits checked commands and plans them.
+    ///
+    /// # Errors
+    ///
+    /// `Busy` or `NoMemory`. It is then as it was.
+    fn prepare_checked<W: Wait>(
+        &mut self,
+        rt: &W,
+        domain: &Domain,
+        checked: Checked,
+    ) -> Result<(), Refusal>
+        requires ready { self.old.phase ≡ Phase.Ready }
+        requires checked { AreChecked (line_state self.old.line) checked }
+        ensures ok { OnOk result ((self.new ≡ record self.old { phase = Phase.Prepared; commands = commands_checked checked }) × TakesAll self.old (commands_checked checked)) }
+        ensures err { IfErr result (λ reason. (self.new ≡ self.old) × AreNotPrepared self.old.phase (line_state self.old.line) (commands_checked checked) reason) }
+        ensures stands { Stands S.Store self.new }
+    {
         let admitted = self.admit(&mut domain.lock(rt), checked);
         if let Err(reason) = admitted {
             return Err(reason);
@@ -529,7 +548,66 @@ impl<S: Alter + Drop> Publisher<S> {
         ensures stands { Stands S.Store self.new }
         ensures ran { HasCleanDisk (state S.Store self.new.tables) → OnOk result (HaveCommitted S.Store self.old commands.now self.new.tables) }
     {
-        if let Err(reason) = self.prepare_all(rt, domain, commands) {
+        match self.check_all(commands) {
+            Ok(checked) => self.submit_checked(rt, domain, checked),
+            Err(reason) => Err(reason),
+        }
+    }
+
+    /// Commits and publishes a set that is of the published version: all of its commands or none. None is checked or
+    /// planned again. After it the publisher is ready or closed.
+    ///
+    /// # Errors
+    ///
+    /// `Closed` exactly if it is closed; `Busy` and `NoMemory`, which leave it as it was; those of `commit` and `publish`,
+    /// with what each leaves.
+    pub fn submit_set<W: Wait>(
+        &mut self,
+        rt: &W,
+        domain: &Domain,
+        set: ChangeSet,
+    ) -> Result<Receipt, Refusal>
+        requires quiet { IsQuiet self.old.phase }
+        requires some { 1 ≤ length set.commands }
+        requires base { set.base ≡ line_state self.old.line }
+        ensures quiet { IsQuiet self.new.phase }
+        ensures ok { IfOk result (λ receipt. (receipt ≡ grown_by self.old.line set.commands) × (self.new ≡ record self.old { phase = Phase.Ready; line = grown_by self.old.line set.commands; commands = []; tables = self.new.tables })) }
+        ensures took { OnOk result (TakesAll self.old set.commands) }
+        ensures err { IfErr result (λ reason. AreNotAcknowledged S.Store self.old set.commands reason self.new) }
+        ensures clean { HasCleanDisk (state S.Store self.new.tables) → HasCleanDisk (state S.Store self.old.tables) }
+        ensures others { Spares S.Store self.old self.new }
+        ensures stands { Stands S.Store self.new }
+        ensures ran { HasCleanDisk (state S.Store self.new.tables) → OnOk result (HaveCommitted S.Store self.old set.commands self.new.tables) }
+    {
+        match self.phase() {
+            Phase::Ready => self.submit_checked(rt, domain, Checked::of_set(set)),
+            _ => Err(Refusal::Closed),
+        }
+    }
+
+    /// Admits, plans, commits and publishes checked commands: all of them or none.
+    ///
+    /// # Errors
+    ///
+    /// `Busy` and `NoMemory`, which leave it as it was; those of `commit` and `publish`, with what each leaves.
+    fn submit_checked<W: Wait>(
+        &mut self,
+        rt: &W,
+        domain: &Domain,
+        checked: Checked,
+    ) -> Result<Receipt, Refusal>
+        requires ready { self.old.phase ≡ Phase.Ready }
+        requires checked { AreChecked (line_state self.old.line) checked }
+        ensures quiet { IsQuiet self.new.phase }
+        ensures ok { IfOk result (λ receipt. (receipt ≡ grown_by self.old.line (commands_checked checked)) × (self.new ≡ record self.old { phase = Phase.Ready; line = grown_by self.old.line (commands_checked checked); commands = []; tables = self.new.tables })) }
+        ensures took { OnOk result (TakesAll self.old (commands_checked checked)) }
+        ensures err { IfErr result (λ reason. AreNotAcknowledged S.Store self.old (commands_checked checked) reason self.new) }
+        ensures clean { HasCleanDisk (state S.Store self.new.tables) → HasCleanDisk (state S.Store self.old.tables) }
+        ensures others { Spares S.Store self.old self.new }
+        ensures stands { Stands S.Store self.new }
+        ensures ran { HasCleanDisk (state S.Store self.new.tables) → OnOk result (HaveCommitted S.Store self.old (commands_checked checked) self.new.tables) }
+    {
+        if let Err(reason) = self.prepare_checked(rt, domain, checked) {
             return Err(reason);
         }
         if let Err(reason) = self.commit() {

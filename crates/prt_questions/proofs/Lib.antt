@@ -6,4 +6,5 @@ mod ReadTables
 mod Rehearsals
 mod Applied
 mod Later
+mod Submitted
 mod Told

@@ -8,4 +8,5 @@ pub mod Applying
 pub mod Tried
 pub mod Importing
 pub mod Sources
+pub mod Submitting
 pub mod Told

@@ -11,6 +11,7 @@ use Rattle.prt_words.specs.declared.asking.Source.{Source}
 use Rattle.prt_words.specs.declared.asking.Source.TheVariants.{Script}
 use Rattle.prt_words.specs.declared.server_place.ServerPlace.{ServerPlace}
 use Rattle.prt_questions.specs.declared.local.Socket.{Socket}
+use Rattle.prt_questions.specs.declared.local.Socket.TheVariants.{Atomic}
 
 -- ---- files and the standard input
 
@@ -59,6 +60,10 @@ module _ {N Stream : Type 0} (reaches : N → ServerPlace → Socket → List �
   abbrev pub IsReply : (line reply : List ℕ) → Type 0
   IsReply line reply = (socket : Socket) × (stream : Stream) × reaches net place socket (line ++ codes "\n") stream × IfSome (said stream) (λ all. reply ≡ all)
 
+-- all that a server at a place sent over a connection for atomic scripts, over which it was sent one, is this reply
+abbrev pub IsAtomicReply : {N Stream : Type 0} → (N → ServerPlace → Socket → List ℕ → Stream → Type 0) → (Stream → Option (List ℕ)) → N → ServerPlace → (sent reply : List ℕ) → Type 0
+IsAtomicReply {N} {Stream} reaches said net place sent reply = (stream : Stream) × reaches net place Atomic sent stream × IfSome (said stream) (λ all. reply ≡ all)
+
 -- ---- all of them
 
 -- What a question may read.
@@ -71,9 +76,11 @@ pub record Sources : Type 1 where
   pub tells : ServerPlace → State → Type 0
   -- and replied this to a line
   pub replies : ServerPlace → List ℕ → List ℕ → Type 0
+  -- and this to an atomic script
+  pub submits : ServerPlace → List ℕ → List ℕ → Type 0
 
 abbrev pub sources_of : {F File N Stream : Type 0} → (F → List ℕ → File → Type 0) → (File → Option (List ℕ)) → F → (N → ServerPlace → Socket → List ℕ → Stream → Type 0) → (Stream → Option (List ℕ)) → N → Option (List ℕ) → Sources
-sources_of opens bytes files reaches said net input = record { files = IsFileOf opens bytes files; input = input; tells = AreTold reaches said net; replies = IsReply reaches said net }
+sources_of opens bytes files reaches said net input = record { files = IsFileOf opens bytes files; input = input; tells = AreTold reaches said net; replies = IsReply reaches said net; submits = IsAtomicReply reaches said net }
 
 -- a text of a file, or of the input
 abbrev pub Gives : Sources → Option Word → List ℕ → Type 0

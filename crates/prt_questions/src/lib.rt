@@ -23,6 +23,7 @@ mod reading;
 mod remote;
 mod searching;
 mod status;
+mod submitting;
 mod tables;
 mod telling;
 
@@ -35,4 +36,5 @@ pub use machine::{Machine, Wanted};
 pub use opening::open_publisher;
 pub use questions::answer_question;
 pub use status::CLOSED;
+pub use submitting::submit_script;
 pub use telling::tell;

@@ -18,7 +18,7 @@ use std::time::Duration;
 use thiserror::Error;
 
 /// How many seconds a server may take to answer, and to send more.
-const PATIENCE: u64 = 10;
+pub(crate) const PATIENCE: u64 = 10;
 
 /// How many seconds a feed may be silent: it writes a line at least each 15 seconds.
 const SILENCE: u64 = 45;

@@ -1,13 +1,13 @@
 //! The two ends of a connection: replies to lines that came together go out together.
-ghost use Rattle.std.specs.Prelude.{◌≡◌, IfOk, true};
-ghost use Rattle.std.specs.Io.Buffered.{reader_remaining, writer_contents};
+ghost use Rattle.std.specs.Prelude.{◌≡◌, ◌-◌, IfOk, length, true};
+ghost use Rattle.std.specs.Io.Buffered.{reader_remaining, writer_buffer, writer_capacity, writer_contents};
 ghost use Rattle.prt_serve.specs.Blocks.{BeginsWithLine};
 
 use crate::worker::Kind;
 use std::alloc::Global;
 use std::io::{self, BufReader, BufWriter, ErrorKind, Read, Write};
 use std::sync::Arc;
-use std::sync::atomic::{AtomicBool, Ordering};
+use std::sync::atomic::{AtomicBool, AtomicUsize, Ordering};
 
 /// Checks whether a block begins with a whole line that has a word, and so gets a reply. It may miss one with white
 /// space in front.
@@ -20,22 +20,27 @@ fn begins_with_line(block: &[u8]) -> bool
     }
 }
 
-/// What one end of a connection reports to the other of the line that comes next.
+/// What the ends of a connection report to each other, and to the session: whether a further line is at hand, and how much
+/// room there is for replies. One thread calls the ends, so what it asks here holds until it calls one of them.
 #[derive(Drop)]
-struct NextLine {
+pub struct Pipeline {
     /// Whether all that was read are whole lines, and the next one lies whole in the block and gets a reply.
     is_at_hand: AtomicBool,
+    /// How many bytes the block of replies has left.
+    room: AtomicUsize,
 }
 
-impl NextLine {
-    fn new() -> NextLine {
-        NextLine {
+impl Pipeline {
+    /// Makes one of which nothing is known: no line is at hand, and there is no room.
+    fn new() -> Pipeline {
+        Pipeline {
             is_at_hand: AtomicBool::new(false),
+            room: AtomicUsize::new(0),
         }
     }
 
     /// Notes whether the line with which this block begins comes next.
-    fn note(&self, is_at_hand: bool, block: &[u8])
+    fn note_line(&self, is_at_hand: bool, block: &[u8])
         requires { is_at_hand ≡ true → BeginsWithLine block.now }
     {
         // Writes only what changes: the reader is asked for each byte.
@@ -44,8 +49,21 @@ impl NextLine {
         }
     }
 
+    /// Notes how many bytes this block of replies has left.
+    fn note_room<T: Write + Drop>(&self, room: usize, blocks: &BufWriter<T>)
+        requires { room ≡ writer_capacity blocks.now - length (writer_buffer blocks.now) }
+    {
+        self.room.store(room, Ordering::SeqCst);
+    }
+
     fn is_at_hand(&self) -> bool {
         self.is_at_hand.load(Ordering::SeqCst)
+    }
+
+    /// Checks whether a further line is at hand, and a reply of this many bytes is written without a call to the client's
+    /// end: then nothing waits for the client before that line is executed.
+    pub(crate) fn goes_on_after(&self, size: usize) -> bool {
+        self.is_at_hand() && size < self.room.load(Ordering::SeqCst)
     }
 }
 
@@ -55,7 +73,7 @@ pub struct Lines<T: Read + Drop> {
     blocks: BufReader<T>,
     /// A line of an atomic file gets no reply of its own, so no flush waits for it.
     kind: Kind,
-    next: Arc<NextLine>,
+    pipeline: Arc<Pipeline>,
     /// How the last read failed, if it did.
     fault: Option<ErrorKind>,
 }
@@ -65,32 +83,44 @@ pub struct Lines<T: Read + Drop> {
 #[derive(Drop)]
 pub struct Replies<T: Write + Drop> {
     blocks: BufWriter<T>,
-    /// What `Lines` reports of the line after the one that is replied to.
-    next: Arc<NextLine>,
+    pipeline: Arc<Pipeline>,
+}
+
+/// The ends of a connection, and what they report of it.
+#[derive(Drop)]
+pub struct Ends<T: Read + Write + Drop> {
+    pub lines: Lines<T>,
+    pub replies: Replies<T>,
+    pub pipeline: Arc<Pipeline>,
 }
 
 /// Makes the ends of a connection of its two streams.
-pub(crate) fn ends_over<T: Read + Write + Drop>(
+pub fn ends_over<T: Read + Write + Drop>(
     alloc: Global,
     from: T,
     to: T,
     kind: Kind,
-) -> io::Result<(Lines<T>, Replies<T>)>
-    ensures from { IfOk result (λ ends. reader_remaining T.remaining ends.0.blocks ≡ T.remaining from) }
-    ensures to { IfOk result (λ ends. writer_contents T.contents ends.1.blocks ≡ T.contents to) }
+) -> io::Result<Ends<T>>
+    ensures from { IfOk result (λ ends. reader_remaining T.remaining ends.lines.blocks ≡ T.remaining from) }
+    ensures to { IfOk result (λ ends. writer_contents T.contents ends.replies.blocks ≡ T.contents to) }
 {
-    let next = Arc::new(alloc, NextLine::new())?;
+    let pipeline = Arc::new(alloc, Pipeline::new())?;
     let replies = Replies {
         blocks: BufWriter::new(alloc, to)?,
-        next: Arc::try_clone(&next)?,
+        pipeline: Arc::try_clone(&pipeline)?,
     };
+    replies.note_room();
     let lines = Lines {
         blocks: BufReader::new(alloc, from)?,
         kind,
-        next,
+        pipeline: Arc::try_clone(&pipeline)?,
         fault: None,
     };
-    Ok((lines, replies))
+    Ok(Ends {
+        lines,
+        replies,
+        pipeline,
+    })
 }
 
 impl<T: Read + Drop> Lines<T> {
@@ -101,7 +131,7 @@ impl<T: Read + Drop> Lines<T> {
         }
         let block = self.blocks.buffer();
         let is_at_hand = bytes.last() == Some(&b'\n') && begins_with_line(block);
-        self.next.note(is_at_hand, block);
+        self.pipeline.note_line(is_at_hand, block);
     }
 
     /// Checks whether the last read failed because nothing came in time.
@@ -130,17 +160,30 @@ impl<T: Read + Drop> Read for Lines<T> {
     }
 }
 
+impl<T: Write + Drop> Replies<T> {
+    /// Notes how much room there is.
+    fn note_room(&self) {
+        let blocks = &self.blocks;
+        let room = blocks.capacity().saturating_sub(blocks.buffer().len());
+        self.pipeline.note_room(room, blocks);
+    }
+}
+
 impl<T: Write + Drop> Write for Replies<T> {
     ghost contents = { λ replies. writer_contents T.contents replies.blocks };
 
     fn write(&mut self, bytes: &[u8]) -> io::Result<usize> {
-        self.blocks.write(bytes)
+        let written = self.blocks.write(bytes);
+        self.note_room();
+        written
     }
 
     fn flush(&mut self) -> io::Result<()> {
-        if self.next.is_at_hand() {
+        if self.pipeline.is_at_hand() {
             return Ok(());
         }
-        self.blocks.flush()
+        let flushed = self.blocks.flush();
+        self.note_room();
+        flushed
     }
 }

@@ -22,7 +22,7 @@ mod watch;
 mod worker;
 
 pub use atomic::{FileServed, serve_atomic};
-pub use connection::{Lines, Replies};
+pub use connection::{Ends, Lines, Pipeline, Replies, ends_over};
 pub use feed::{Fed, serve_feed};
 pub use feeding::serve_and_feed;
 pub use gate::{Gate, OpenGate, Queued};

@@ -239,6 +239,24 @@ impl<'a, H: Wait + Clock, S: Alter + Drop, J: Naming, G: Gate, T: Read + Write +
     G,
     T,
 > {
+    fn new(
+        rt: &'a H,
+        alloc: Global,
+        service: &'a Service<S, J>,
+        gate: &'a G,
+        jobs: Receiver<Connected<T>>,
+        idle: Option<Duration>,
+    ) -> Worker<'a, H, S, J, G, T> {
+        Worker {
+            rt,
+            alloc,
+            service,
+            gate,
+            jobs,
+            idle,
+        }
+    }
+
     /// Serves jobs until the channel is closed, as `work` does.
     fn serve(self) -> Result<Shift<J>, Refusal> {
         let jobs = self.jobs.iter(self.rt);
@@ -260,6 +278,24 @@ struct Attendant<'a, H: Wait + Clock, G: Gate, T: Read + Write + OpenStream + Dr
 }
 
 impl<'a, H: Wait + Clock, G: Gate, T: Read + Write + OpenStream + Drop> Attendant<'a, H, G, T> {
+    fn new(
+        rt: &'a H,
+        alloc: Global,
+        gate: &'a G,
+        arrivals: Receiver<Arrival<T>>,
+        jobs: Sender<Connected<T>>,
+        idle: Option<Duration>,
+    ) -> Attendant<'a, H, G, T> {
+        Attendant {
+            rt,
+            alloc,
+            gate,
+            arrivals,
+            jobs,
+            idle,
+        }
+    }
+
     /// Attends to connections until no more come.
     fn serve(self) {
         attend(
@@ -360,6 +396,18 @@ struct Manned<J: Naming> {
     accepting: Accepting,
 }
 
+impl<J: Naming> Manned<J> {
+    /// Makes that of workers of which one, or what is to accept for them, could not be started.
+    fn failed(crew: Crew<J>) -> Manned<J>
+        ensures { result ≡ record { crew = crew; accepting = Accepting.Failed } }
+    {
+        Manned {
+            crew,
+            accepting: Accepting::Failed,
+        }
+    }
+}
+
 /// Accepts connections, while each of the threads works. Returns once all of them have ended.
 fn accept_among_workers<
     H: Threads + Wait + Clock + Sync,
@@ -388,65 +436,33 @@ fn accept_among_workers<
         to_workers,
         jobs: from_room,
     } = channels;
-    let Limits {
-        workers,
-        sessions,
-        idle,
-    } = limits;
     thread::scope(
         thread::scope_env(),
         rt,
         |scope| -> Manned<J>
             requires crew { (vec_len crew.threads ≡ 0) × (vec_len crew.shifts ≡ 0) }
             requires send { IsSync H.row × IsSend S.row × IsSend J.row × IsSync G.row × IsSend T.row × IsSync L.row }
-            ensures { (vec_len result.crew.shifts ≡ 0) × (result.accepting ≢ Accepting.Failed → vec_len result.crew.threads ≡ workers) }
+            ensures { (vec_len result.crew.shifts ≡ 0) × (result.accepting ≢ Accepting.Failed → vec_len result.crew.threads ≡ limits.workers) }
         {
-            let failed = Accepting::Failed;
-            for _ in 0..workers {
+            for _ in 0..limits.workers {
                 let Ok(jobs) = from_room.clone() else {
-                    return Manned {
-                        crew,
-                        accepting: failed,
-                    };
+                    return Manned::failed(crew);
                 };
-                let worker = Worker {
-                    rt,
-                    alloc,
-                    service,
-                    gate,
-                    jobs,
-                    idle,
-                };
+                let worker = Worker::new(rt, alloc, service, gate, jobs, limits.idle);
                 let Ok(thread) = scope.spawn(move || worker.serve()) else {
-                    return Manned {
-                        crew,
-                        accepting: failed,
-                    };
+                    return Manned::failed(crew);
                 };
                 if !crew.add(thread) {
-                    return Manned {
-                        crew,
-                        accepting: failed,
-                    };
+                    return Manned::failed(crew);
                 }
             }
             // Lets a send fail once no worker is left.
             drop(from_room);
-            let attendant = Attendant {
-                rt,
-                alloc,
-                gate,
-                arrivals,
-                jobs: to_workers,
-                idle,
-            };
+            let attendant = Attendant::new(rt, alloc, gate, arrivals, to_workers, limits.idle);
             if scope.spawn(move || attendant.serve()).is_err() {
-                return Manned {
-                    crew,
-                    accepting: failed,
-                };
+                return Manned::failed(crew);
             }
-            let accepting = accept_all(rt, gate, entrances, to_room, sessions);
+            let accepting = accept_all(rt, gate, entrances, to_room, limits.sessions);
             Manned { crew, accepting }
         },
     )

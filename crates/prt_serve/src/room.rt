@@ -1,7 +1,7 @@
 //! The waiting room: connections whose clients have sent nothing yet take no worker.
 
 use crate::accepting::is_permanent;
-use crate::connection::{Lines, Replies, ends_over};
+use crate::connection::{Ends, Lines, Replies, ends_over};
 use crate::gate::{Gate, Queued};
 use crate::idle::idle_line;
 use crate::worker::{Job, Kind};
@@ -131,13 +131,18 @@ fn connected<T: Read + Write + OpenStream + Drop>(
 ) -> io::Result<Connected<T>> {
     let (session, client, kind) = (guest.session, guest.client, guest.kind);
     let stream = make_ready(guest, idle)?;
-    let (reader, writer) = ends_over(alloc, stream, to, kind)?;
+    let Ends {
+        lines,
+        replies,
+        pipeline,
+    } = ends_over(alloc, stream, to, kind)?;
     Ok(Job {
         session,
         client,
         kind,
-        reader,
-        writer,
+        reader: lines,
+        writer: replies,
+        pipeline: Some(pipeline),
     })
 }
 

@@ -1,9 +1,10 @@
 //! A session over a service.
-ghost use Rattle.std.specs.Prelude.{◌≡◌, IfErr, IfOk, IfSome, IsSome, None};
-ghost use Rattle.prt_front.specs.Line.{line_state};
+ghost use Rattle.std.specs.Prelude.{◌≡◌, IfErr, IfOk, IfSome, MatchResult, None, Some};
+ghost use Rattle.prt_front.specs.Line.{Begins, line_state};
 ghost use Rattle.prt_listing.specs.QueryText.{query_text};
 ghost use Rattle.prt_serve.specs.Serving.{Serves};
 
+use crate::connection::Pipeline;
 use crate::gate::{Gate, Gated};
 use prt_command::{Query, Request};
 use prt_listing::query_text;
@@ -23,6 +24,54 @@ pub struct Visit<'a, H: Wait + Clock, S: Alter + Drop, J: Naming> {
     rt: &'a H,
     alloc: Global,
     service: &'a Service<S, J>,
+    /// What the ends of the connection report, if they do.
+    pipeline: Option<&'a Pipeline>,
+}
+
+/// Has the looker hold the published version, unless it holds one already: that was fetched after the line that is executed
+/// had come. What it holds is all that it knows.
+///
+/// # Errors
+///
+/// Those of `Looker::refresh`; it stays offline, and may know more.
+fn go_online<H: Wait + Clock, S: Alter + Drop, J: Naming>(
+    visit: &Visit<'_, H, S, J>,
+    looker: &mut Looker,
+) -> Result<(), Refusal>
+    requires { IfSome looker.old.held (λ line. line ≡ looker.old.known) }
+    ensures known { Begins looker.old.known looker.new.known }
+    ensures held { MatchResult result (λ _. looker.new.held ≡ Some looker.new.known) (λ _. looker.new.held ≡ None) }
+    ensures reason { IfErr result (λ reason. reason ≡ Refusal.NotFetched) }
+{
+    if looker.is_online() {
+        return Ok(());
+    }
+    looker.refresh(visit.rt, visit.service)
+}
+
+/// Has the looker hold nothing. What it knows stays.
+fn go_offline<H: Wait + Clock, S: Alter + Drop, J: Naming>(
+    visit: &Visit<'_, H, S, J>,
+    looker: &mut Looker,
+)
+    ensures known { looker.new.known ≡ looker.old.known }
+    ensures held { looker.new.held ≡ None }
+{
+    if looker.is_online() {
+        looker.rest(visit.rt, visit.service);
+    }
+}
+
+/// Checks whether the next line is executed before anything waits for the client, the writing of this answer included. That
+/// line came before the version that answered was fetched.
+fn goes_on_after<H: Wait + Clock, S: Alter + Drop, J: Naming>(
+    visit: &Visit<'_, H, S, J>,
+    answered: &Result<Text, Refusal>,
+) -> bool {
+    match (visit.pipeline, answered) {
+        (Some(pipeline), Ok(text)) => pipeline.goes_on_after(text.as_slice().len()),
+        _ => false,
+    }
 }
 
 /// Builds the lines that answer a query from a version.
@@ -39,21 +88,25 @@ fn answer_from(alloc: Global, version: &Version, query: &Query) -> Result<Text, 
     Ok(Text::new(text))
 }
 
-/// Answers a query from the version that a looker holds, which is offline then. It goes offline before it makes a listing,
-/// which may take long; an answer on a packet is made of the version while it is held.
+/// Answers a query from the version that a looker holds. An answer on a packet is made while it is held, and the looker
+/// stays online for the next line if nothing waits before that. It goes offline before it makes a listing, which may take
+/// long.
 fn answer<H: Wait + Clock, S: Alter + Drop, J: Naming>(
     visit: &Visit<'_, H, S, J>,
     looker: &mut Looker,
     query: &Query,
 ) -> Result<Text, Refusal>
-    requires { IsSome looker.old.held }
-    ensures text { IfOk result (λ text. IfSome looker.old.held (λ line. text ≡ query_text (line_state line) query.now)) }
+    requires { looker.old.held ≡ Some looker.old.known }
+    ensures text { IfOk result (λ text. text ≡ query_text (line_state looker.old.known) query.now) }
     ensures reason { IfErr result (λ reason. reason ≡ Refusal.NoMemory) }
-    ensures offline { looker.new ≡ record looker.old { held = None; announced = None } }
+    ensures known { looker.new.known ≡ looker.old.known }
+    ensures held { IfSome looker.new.held (λ line. line ≡ looker.new.known) }
 {
     if let Query::Get(_) = query {
         let answered = answer_from(visit.alloc, looker.version(), query);
-        looker.rest(visit.rt, visit.service);
+        if !goes_on_after(visit, &answered) {
+            go_offline(visit, looker);
+        }
         answered
     } else {
         let version = looker.keep(visit.rt, visit.service);
@@ -61,10 +114,11 @@ fn answer<H: Wait + Clock, S: Alter + Drop, J: Naming>(
     }
 }
 
-/// A looker executes requests as the service's guest: it submits each command and learns its receipt, and looks again
-/// for each query. Between two requests it is offline, so a client that doesn't read its replies holds back no version.
+/// A looker executes requests as the service's guest: it submits each command and learns its receipt, and looks again for a
+/// query, unless it is online still. From one line to the next it stays online only if nothing waits for the client between
+/// them, so a client that doesn't read its replies holds back no version. It is offline while a command is submitted.
 impl<'a, H: Wait + Clock, S: Alter + Drop, J: Naming> Executor<Visit<'a, H, S, J>> for Looker {
-    ghost use Rattle.std.specs.Prelude.{◌≡◌, None};
+    ghost use Rattle.std.specs.Prelude.{◌≡◌, IfSome};
     ghost use Rattle.prt_front.specs.Line.{Line};
     ghost use Rattle.prt_serve.specs.Requests.{Event, service_may, service_turn};
     ghost use Rattle.prt_serve.specs.Growing.{Grows, grows_over_all};
@@ -83,20 +137,23 @@ impl<'a, H: Wait + Clock, S: Alter + Drop, J: Naming> Executor<Visit<'a, H, S, J
 
     ghost keeps_over_all = { grows_over_all };
 
-    ghost fits = { λ looker. (looker.known.book ≡ J.book) × (looker.known.base ≡ J.base) × (looker.held ≡ None) × (looker.announced ≡ None) };
+    ghost fits = { λ looker. (looker.known.book ≡ J.book) × (looker.known.base ≡ J.base) × IfSome looker.held (λ line. line ≡ looker.known) };
 
     fn execute(&mut self, visit: &Visit<'a, H, S, J>, request: &Request) -> Reply {
         match request {
-            Request::Command(command) => match visit.service.submit(visit.rt, command) {
-                Ok(receipt) => {
-                    let number = receipt.number();
-                    self.learn(receipt);
-                    Reply::Accepted(number)
+            Request::Command(command) => {
+                go_offline(visit, self);
+                match visit.service.submit(visit.rt, command) {
+                    Ok(receipt) => {
+                        let number = receipt.number();
+                        self.learn(receipt);
+                        Reply::Accepted(number)
+                    }
+                    Err(reason) => Reply::Refused(reason),
                 }
-                Err(reason) => Reply::Refused(reason),
-            },
+            }
             Request::Query(query) => {
-                if let Err(reason) = self.refresh(visit.rt, visit.service) {
+                if let Err(reason) = go_online(visit, self) {
                     return Reply::Refused(reason);
                 }
                 match answer(visit, self, query) {
@@ -106,13 +163,20 @@ impl<'a, H: Wait + Clock, S: Alter + Drop, J: Naming> Executor<Visit<'a, H, S, J
             }
         }
     }
+
+    fn pass(&mut self, visit: &Visit<'a, H, S, J>) {
+        go_offline(visit, self);
+    }
 }
 
 /// Serves one session: executes each line and replies to it before the next is read, and goes on after a refused line.
 ///
-/// Before each query the looker refreshes, after an accepted command it learns the receipt, and it is offline after each
-/// line and at the end. Only an answer takes memory of `alloc` beside the command's own; if there is none, its query
-/// alone is refused. The session ends as `run_session` says; what the gate does beside waiting is no part of it.
+/// A query is answered from a version that was fetched after its line had come, and that has what the looker knew; after an
+/// accepted command it learns the receipt. It is online only while nothing waits for the client, and offline at the end.
+/// Only an answer takes memory of `alloc` beside the command's own; if there is none, its query alone is refused. The session
+/// ends as `run_session` says; what the gate does beside waiting is no part of it.
+///
+/// `pipeline` is what the two ends report, if they do. Without it each query is answered from a version of its own.
 pub fn serve_session<H: Wait + Clock, S: Alter + Drop, J: Naming, G: Gate, R: Read, W: Write>(
     rt: &H,
     alloc: Global,
@@ -121,6 +185,7 @@ pub fn serve_session<H: Wait + Clock, S: Alter + Drop, J: Naming, G: Gate, R: Re
     session: u64,
     client: SocketAddr,
     gate: &G,
+    pipeline: Option<&Pipeline>,
     reader: &mut R,
     writer: &mut W,
 ) -> ScriptEnd
@@ -131,11 +196,18 @@ pub fn serve_session<H: Wait + Clock, S: Alter + Drop, J: Naming, G: Gate, R: Re
         (W.contents writer.old) (W.contents writer.new) result }
 {
     looker.rest(rt, service);
-    let visit = Visit { rt, alloc, service };
+    let visit = Visit {
+        rt,
+        alloc,
+        service,
+        pipeline,
+    };
     let mut gated = Gated {
         gate,
         session,
         client,
     };
-    run_session(&visit, looker, reader, writer, OnRefusal::GoOn, &mut gated)
+    let end = run_session(&visit, looker, reader, writer, OnRefusal::GoOn, &mut gated);
+    looker.rest(rt, service);
+    end
 }

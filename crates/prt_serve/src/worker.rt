@@ -7,6 +7,7 @@ ghost use Rattle.prt_serve.specs.Serving.{Serves};
 ghost use Rattle.prt_serve.specs.Together.{ServesTogether};
 
 use crate::atomic::{FileServed, serve_atomic};
+use crate::connection::Pipeline;
 use crate::gate::Gate;
 use crate::session::serve_session;
 use crate::shift::Shift;
@@ -16,7 +17,7 @@ use sqlite::Alter;
 use std::alloc::Global;
 use std::io::{Read, Write};
 use std::net::SocketAddr;
-use std::sync::Wait;
+use std::sync::{Arc, Wait};
 use std::time::Clock;
 
 /// How the commands of a connection are made.
@@ -38,6 +39,8 @@ pub struct Job<R: Read + Drop, W: Write + Drop> {
     pub kind: Kind,
     pub reader: R,
     pub writer: W,
+    /// What the two report of the connection, if they do.
+    pub pipeline: Option<Arc<Pipeline>>,
 }
 
 /// A job whose session has ended: what its reader has left, what its writer was given, and how the session ended.
@@ -74,6 +77,7 @@ fn serve_job<H: Wait + Clock, S: Alter + Drop, J: Naming, G: Gate, R: Read + Dro
         job.session,
         job.client,
         gate,
+        job.pipeline.as_deref(),
         &mut job.reader,
         &mut job.writer,
     );
@@ -112,6 +116,7 @@ fn serve_together<
         kind,
         reader,
         mut writer,
+        pipeline,
     } = job;
     gate.begins(session);
     let FileServed { end, reader } = serve_atomic(
@@ -133,6 +138,7 @@ fn serve_together<
             kind,
             reader,
             writer,
+            pipeline,
         },
         end,
     }

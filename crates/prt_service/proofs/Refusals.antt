@@ -1,5 +1,5 @@
 -- Why a publisher refuses commands.
-use Rattle.std.proofs.Common.{◌≡◌, ◌∙◌, ap, Bool, true, false, refl, inl, inr, List, sym, subst}
+use Rattle.std.proofs.Common.{◌≡◌, ◌∙◌, ap, true, false, refl, inl, inr, List, sym, subst}
 use Rattle.std.proofs.lemmas.Bool.{false≢true}
 use Rattle.sqlite.specs.Held.{Held}
 use Rattle.sqlite.specs.Store.{Ghosts}

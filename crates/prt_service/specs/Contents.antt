@@ -1,5 +1,5 @@
 -- How many tables have routes.
-use Rattle.std.specs.Prelude.{ℕ, ◌+◌, ◌==◌, Bool, true, false, cond, List, [], ◌∷◌, Option, Some, None}
+use Rattle.std.specs.Prelude.{ℕ, ◌+◌, ◌==◌, Bool, false, cond, List, [], ◌∷◌, Option, Some, None}
 use Rattle.prt_route.specs.declared.route.Route.{Route}
 
 -- the table is the one that came last

@@ -1,79 +1,77 @@
 //! Commands that wait and are submitted together.
-ghost use Rattle.std.specs.Prelude.{◌≡◌, ◌++◌, [], ◌∷◌, IfErr, IfOk, IfSome, None, OnOk, false, true};
+ghost use Rattle.std.specs.Prelude.{◌≡◌, ◌++◌, [], ◌∷◌, IfErr, IfOk, IfSome, None, false, true};
 ghost use Rattle.prt_front.specs.Line.{line_state};
-ghost use Rattle.prt_publisher.specs.Step.{version_met};
 ghost use Rattle.prt_service.specs.Group.{AreSubmitted, HaveUnknownFate, IsPartOf, have_unknown_fate};
 ghost use Rattle.prt_service.specs.Service.{AreAnswered};
-ghost use Rattle.prt_version.specs.Accepted.{IsAccepted};
-ghost use Rattle.prt_version.specs.Change.{apply, refusal};
 
 use crate::Naming;
 use crate::quiet::QuietPublisher;
 use crate::submitted::Submitted;
 use crate::waiting::Waiting;
-use prt_command::{Command, Refusal};
+use prt_command::Refusal;
 use prt_grace::Domain;
+use prt_publisher::ChangeSet;
 use prt_version::Version;
 use sqlite::Alter;
 use std::alloc::Global;
 use std::marker::Model;
 use std::sync::Wait;
 
-/// Commands that wait, for one transaction. Contracts see it as their list.
+/// Commands that wait, for one transaction: each is accepted after those before it. Contracts see it as the set of them.
 #[derive(Drop)]
 pub(crate) struct Group<J: Naming> {
     waiting: Vec<Waiting<J>>,
-    commands: Vec<Command>,
+    set: ChangeSet,
 }
 
 impl<J: Naming> Model for Group<J> {
-    ghost use Rattle.std.specs.Prelude.{◌≡◌, All, List};
-    ghost use Rattle.prt_command.specs.Storable.{IsStorable};
-    ghost use Rattle.prt_command.specs.declared.request.Command as requests;
+    ghost use Rattle.std.specs.Prelude.{◌≡◌};
+    ghost use Rattle.prt_publisher.specs.ChangeSet.{Planned};
 
-    ghost Value = { List requests.Command };
+    ghost Value = { Planned };
 
-    ghost view = { λ group. group.commands.items };
+    ghost view = { λ group. group.set };
 
-    ghost invariant = { λ group. (group.waiting.items ≡ group.commands.items) × All IsStorable group.commands.items };
+    ghost invariant = { λ group. group.waiting.items ≡ group.set.commands };
 }
 
 impl<J: Naming> Group<J> {
-    fn new(alloc: Global) -> Group<J>
-        ensures { result ≡ [] }
+    fn new(alloc: Global, published: &Version) -> Result<Group<J>, Refusal>
+        ensures { IfOk result (λ group. group ≡ record { base = published.now; commands = [] }) }
     {
-        Group {
-            waiting: Vec::new(alloc),
-            commands: Vec::new(alloc),
+        match ChangeSet::new(published) {
+            Ok(set) => Ok(Group {
+                waiting: Vec::new(alloc),
+                set,
+            }),
+            Err(reason) => Err(reason),
         }
     }
 
-    /// Adds a command, and returns whether it did. It lets the command go if there is no memory for it.
+    /// Adds a command, and returns whether it did. It lets the command go if it is refused after those before it, or there
+    /// is no memory for it.
     fn add(&mut self, one: Waiting<J>) -> bool
-        ensures added { result ≡ true → self.new ≡ self.old ++ one ∷ [] }
+        ensures added { result ≡ true → self.new ≡ record self.old { commands = self.old.commands ++ one ∷ [] } }
         ensures let_go { result ≡ false → self.new ≡ self.old }
     {
-        let (Ok(()), Ok(())) = (self.waiting.reserve(1), self.commands.reserve(1)) else {
+        if self.waiting.reserve(1).is_err() {
             return false;
-        };
-        self.commands.push_reserved(*one.command());
+        }
+        if self.set.add(one.command()).is_err() {
+            return false;
+        }
         self.waiting.push_reserved(one);
         true
     }
 
     /// Adds each command that is accepted after those that were added before it, and lets the others go.
-    fn add_accepted(&mut self, published: &Version, waiting: Vec<Waiting<J>>)
-        requires { self.old ≡ [] }
-        ensures part { IsPartOf self.new waiting.items }
-        ensures accepted { IsAccepted published.now self.new }
+    fn add_accepted(&mut self, waiting: Vec<Waiting<J>>)
+        requires { self.old.commands ≡ [] }
+        ensures base { self.new.base ≡ self.old.base }
+        ensures part { IsPartOf self.new.commands waiting.items }
     {
-        let mut last = None;
         for one in waiting {
-            if let Ok(next) = version_after(version_met(published, &last), one.command())
-                && self.add(one)
-            {
-                last = Some(next);
-            }
+            let _added = self.add(one);
         }
     }
 
@@ -83,19 +81,24 @@ impl<J: Naming> Group<J> {
         self,
         publisher: &mut QuietPublisher<S, J>,
         rt: &W,
+        alloc: Global,
         domain: &Domain,
     ) -> Option<Submitted<J>>
-        ensures commands { IfSome result (λ submitted. submitted.waiting.items ≡ self) }
-        ensures submitted { IfSome result (λ submitted. AreSubmitted S.Store publisher.old self submitted.became publisher.new) }
-        ensures fate { IfSome result (λ submitted. IfErr submitted.became (λ reason. HaveUnknownFate S.Store publisher.old self reason publisher.new)) }
-        ensures answered { IfSome result (λ submitted. AreAnswered J.book J.base self submitted.became) }
+        requires { self.base ≡ line_state publisher.old.line }
+        ensures commands { IfSome result (λ submitted. submitted.waiting.items ≡ self.commands) }
+        ensures submitted { IfSome result (λ submitted. AreSubmitted S.Store publisher.old self.commands submitted.became publisher.new) }
+        ensures fate { IfSome result (λ submitted. IfErr submitted.became (λ reason. HaveUnknownFate S.Store publisher.old self.commands reason publisher.new)) }
+        ensures answered { IfSome result (λ submitted. AreAnswered J.book J.base self.commands submitted.became) }
         ensures none { result ≡ None → publisher.new ≡ publisher.old }
     {
-        let Group { waiting, commands } = self;
+        let Group { waiting, set } = self;
+        let Ok(commands) = Vec::from_slice(alloc, set.commands()) else {
+            return None;
+        };
         if commands.is_empty() {
             return None;
         }
-        match publisher.submit_all(rt, domain, commands.as_slice()) {
+        match publisher.submit_set(rt, domain, set, commands.as_slice()) {
             Ok(last) => Some(Submitted {
                 waiting,
                 became: Ok(last),
@@ -114,32 +117,6 @@ fn have_unknown_fate(reason: &Refusal) -> bool
     ensures { result ≡ have_unknown_fate reason.now }
 {
     matches!(reason, Refusal::StoreFailed(_) | Refusal::NotPublished)
-}
-
-/// Picks the version that the next command meets: the last one that was made, or the published one.
-fn version_met<'a>(published: &'a Version, last: &'a Option<Version>) -> &'a Version
-    ensures { result.now ≡ version_met published.now last.now }
-{
-    match last {
-        Some(version) => version,
-        None => published,
-    }
-}
-
-/// Computes the version after a command.
-///
-/// # Errors
-///
-/// What it is refused for, or `NoMemory`.
-fn version_after(version: &Version, command: &Command) -> Result<Version, Refusal>
-    ensures value { IfOk result (λ next. next ≡ apply version.now command.now) }
-    ensures accepted { OnOk result (refusal version.now command.now ≡ None) }
-{
-    let change = match version.check(command) {
-        Ok(change) => change,
-        Err(reason) => return Err(reason),
-    };
-    version.next(&change)
 }
 
 /// Submits the commands that wait, in one transaction those that are accepted one after the other. The others are let go, as
@@ -161,7 +138,9 @@ pub(crate) fn submit_waiting<S: Alter + Drop, J: Naming, W: Wait>(
         let became = publisher.submit(rt, domain, one.command());
         return Some(Submitted { waiting, became });
     }
-    let mut group = Group::new(alloc);
-    group.add_accepted(publisher.published(), waiting);
-    group.submit(publisher, rt, domain)
+    let Ok(mut group) = Group::new(alloc, publisher.published()) else {
+        return None;
+    };
+    group.add_accepted(waiting);
+    group.submit(publisher, rt, alloc, domain)
 }

@@ -22,7 +22,7 @@ use crossbeam_channel::Sender;
 use prt_command::{Command, Refusal};
 use prt_front::{Known, Told};
 use prt_grace::Domain;
-use prt_publisher::{Phase, Publisher, Receipt};
+use prt_publisher::{ChangeSet, Phase, Publisher, Receipt};
 use prt_version::Version;
 use sqlite::{Alter, Error};
 use std::alloc::Global;
@@ -129,6 +129,38 @@ impl<S: Alter + Drop, J: Naming> QuietPublisher<S, J> {
         ensures ran { HasCleanDisk (state S.Store self.new.tables) → OnOk result (HaveCommitted S.Store self.old commands.now self.new.tables) }
     {
         let last = match self.publisher.submit_all(rt, domain, commands) {
+            Ok(last) => last,
+            Err(reason) => return Err(reason),
+        };
+        self.followers.tell_all(rt, &last, commands);
+        Ok(last)
+    }
+
+    /// Commits and publishes a set that is of the published version, and reports its commands to the followers. The
+    /// published list is then the one before with all of them, in their order, and the receipt is of it.
+    ///
+    /// # Errors
+    ///
+    /// Those of `Publisher::submit_set`, with what each leaves: the published list is the one before.
+    pub(crate) fn submit_set<W: Wait>(
+        &mut self,
+        rt: &W,
+        domain: &Domain,
+        set: ChangeSet,
+        commands: &[Command],
+    ) -> Result<Receipt, Refusal>
+        requires some { 1 ≤ length commands.now }
+        requires same { commands.now ≡ set.commands }
+        requires base { set.base ≡ line_state self.old.line }
+        ensures of { IfOk result (λ receipt. (receipt.book ≡ J.book) × (receipt.base ≡ J.base)) }
+        ensures last { IfOk result (λ receipt. EndsWithAll receipt.list commands.now) }
+        ensures reason { IfErr result IsServiceRefusal }
+        ensures quiet { IsQuiet self.new.phase }
+        ensures ok { IfOk result (λ receipt. (receipt ≡ grown_by self.old.line commands.now) × (self.new ≡ record self.old { phase = Ready; line = grown_by self.old.line commands.now; commands = []; tables = self.new.tables })) }
+        ensures took { OnOk result (TakesAll self.old commands.now) }
+        ensures err { IfErr result (λ reason. AreNotAcknowledged S.Store self.old commands.now reason self.new) }
+    {
+        let last = match self.publisher.submit_set(rt, domain, set) {
             Ok(last) => last,
             Err(reason) => return Err(reason),
         };

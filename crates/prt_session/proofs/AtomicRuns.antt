@@ -1,5 +1,5 @@
 -- A run of an atomic file, put together from its reading and its submission.
-use Rattle.std.proofs.Common.{Bool, is_some, length, arith, ◌≡◌, ◌≢◌, ◌⊎◌, ℕ, true, false, List, [], ◌∷◌, ◌++◌, Option, Some, None, IfSome, inl, inr, refl, sym, ap, ◌∙◌, subst}
+use Rattle.std.proofs.Common.{Bool, is_some, length, arith, ◌≡◌, ◌≢◌, ℕ, true, false, List, [], ◌∷◌, ◌++◌, Option, Some, None, IfSome, inl, inr, refl, sym, ap, ◌∙◌, subst}
 use Rattle.std.specs.Prelude.{find}
 use Rattle.std.specs.Io.KnownBytes.{Appends}
 use Rattle.prt_refusals.specs.declared.on_refusal.OnRefusal.TheVariants.{Stop}
@@ -17,7 +17,7 @@ use Rattle.prt_replies.specs.Input.{Input, end_of_input, read_fault}
 use Rattle.prt_session.specs.Session.{Path, replies}
 use Rattle.prt_session.specs.declared.form.Form.TheVariants.{Plain}
 use Rattle.prt_replies.specs.declared.reply.Reply.{Reply}
-use Rattle.prt_replies.specs.declared.reply.Reply.TheVariants.{Refused, Silent}
+use Rattle.prt_replies.specs.declared.reply.Reply.TheVariants.{Silent}
 use Rattle.prt_replies.specs.declared.script_end.ScriptEnd.{ScriptEnd}
 
 had_of : (a b : Option (List ℕ)) (more unread beyond : List ℕ) → Gives a b more unread beyond → IfSome a (λ xs. xs ≡ more ++ beyond)

@@ -36,6 +36,8 @@ impl Executor<()> for Idle {
     fn execute(&mut self, _context: &(), _request: &Request) -> Reply {
         Reply::Silent
     }
+
+    fn pass(&mut self, _context: &()) {}
 }
 
 /// Reads the lines of an input as a session under `OnRefusal::GoOn` does, executes none of them, and writes each refusal

@@ -71,4 +71,6 @@ impl Executor<()> for Collector {
             Err(_) => Reply::Refused(Refusal::NoMemory),
         }
     }
+
+    fn pass(&mut self, _context: &()) {}
 }

@@ -6,7 +6,7 @@ use prt_replies::Reply;
 /// What it may represent, and what may befall a request, are types of its own. A desk represents the states of its
 /// tables, and an executor that shares them with others represents what it knows of them.
 pub trait Executor<C> {
-    ghost use Rattle.std.specs.Prelude.{Option};
+    ghost use Rattle.std.specs.Prelude.{◌≡◌, Option};
     ghost use Rattle.prt_command.specs.Storable.{IsStorableRequest};
     ghost use Rattle.prt_command.specs.declared.request.Request.{Request};
     ghost use Rattle.prt_session.specs.Preorder.{IsPreorder};
@@ -41,6 +41,15 @@ pub trait Executor<C> {
         requires storable { IsStorableRequest request.now }
         ensures fits { fits self.new }
         ensures turn { Explained stands self.old self.new (λ before after. Gives turn may before request.now result after) }
+        ensures left { StandsForSome stands self.old → StandsForSome stands self.new }
+        ensures keeps { keeps self.old self.new };
+
+    /// Takes note of a line that asks for nothing of it, or of what comes in place of a line: a blank line, a refused one,
+    /// one that a fault cuts off, or one more than there may be. Comes before the reply to that is written.
+    fn pass(&mut self, context: &C)
+        requires { fits self.old }
+        ensures fits { fits self.new }
+        ensures same { Explained stands self.old self.new (λ before after. after ≡ before) }
         ensures left { StandsForSome stands self.old → StandsForSome stands self.new }
         ensures keeps { keeps self.old self.new };
 

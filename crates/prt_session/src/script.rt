@@ -47,6 +47,8 @@ impl<D: Desk> Executor<Global> for D {
             }
         }
     }
+
+    fn pass(&mut self, _alloc: &Global) {}
 }
 
 /// Runs a script over a desk, as `run_session` does with any executor.

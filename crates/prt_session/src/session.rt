@@ -24,8 +24,14 @@ fn execute_line<C, E: Executor<C>>(context: &C, executor: &mut E, line: &[u8]) -
     ensures keeps { E.keeps executor.old executor.new }
 {
     match read_line(line) {
-        Err(refusal) => Reply::Refused(refusal),
-        Ok(None) => Reply::Silent,
+        Err(refusal) => {
+            executor.pass(context);
+            Reply::Refused(refusal)
+        }
+        Ok(None) => {
+            executor.pass(context);
+            Reply::Silent
+        }
         Ok(Some(request)) => executor.execute(context, &request),
     }
 }
@@ -46,6 +52,7 @@ fn reply_to_whole<C, E: Executor<C>>(
 {
     let is_long = count > LONGEST_LINE;
     if is_long {
+        executor.pass(context);
         return Reply::Refused(Refusal::LineTooLong);
     }
     execute_line(context, executor, line)
@@ -61,8 +68,14 @@ fn reply_to<C, E: Executor<C>>(context: &C, executor: &mut E, read: LineRead, li
     ensures keeps { E.keeps executor.old executor.new }
 {
     match read.stop {
-        Stop::Fault => Reply::Refused(Refusal::ReadFault),
-        Stop::Endless => Reply::Refused(Refusal::LineTooLong),
+        Stop::Fault => {
+            executor.pass(context);
+            Reply::Refused(Refusal::ReadFault)
+        }
+        Stop::Endless => {
+            executor.pass(context);
+            Reply::Refused(Refusal::LineTooLong)
+        }
         Stop::Newline => reply_to_whole(context, executor, read.length, line),
         Stop::End => reply_to_whole(context, executor, read.length, line),
     }
@@ -177,6 +190,7 @@ pub(crate) fn run_session_in<C, E: Executor<C>, R: Read, W: Write, O: Observer>(
             return end;
         }
     }
+    executor.pass(context);
     end_after_last(reader, writer, form, end)
 }
 

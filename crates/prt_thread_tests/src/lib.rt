@@ -29,6 +29,8 @@ mod overlap;
 #[cfg(test)]
 mod phases;
 #[cfg(test)]
+mod pipeline;
+#[cfg(test)]
 mod slow_looker;
 #[cfg(test)]
 mod together;

@@ -108,6 +108,7 @@ fn hand_over<H: Wait + Copy + Drop>(
             rt,
             text: Arc::try_clone(text)?,
         },
+        pipeline: None,
     };
     Ok(jobs.send(&rt, job).is_ok())
 }

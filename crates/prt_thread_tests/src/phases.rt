@@ -1,11 +1,11 @@
 //! Each call of a publisher, and its end in each phase.
 
 use crate::caller::{
-    adopted, prepare_one, stored_number, submit_to_publisher, submit_two_together,
+    adopted, host_route, prepare_one, stored_number, submit_to_publisher, submit_two_together,
 };
 use prt_command::{Command, Refusal};
 use prt_front::READERS;
-use prt_publisher::Phase;
+use prt_publisher::{ChangeSet, Phase};
 use sqlite::{Alter, Connection};
 use std::alloc::Global;
 use std::sync::Wait;
@@ -110,5 +110,34 @@ fn publishes_one_version_of_two_commands(rt: HostRuntime) -> Result<(), Fail> {
     let alloc = rt.alloc();
     let connection = Connection::open_in_memory(alloc)?;
     assert_eq!(rt; publish_together(rt, alloc, connection)?, (0, 2, 2, 1));
+    Ok(())
+}
+
+/// Submits a set of two commands, to which one of them was tried to be added twice. Returns the number of the version that
+/// it is of, how many commands it has, the number of the version after them, and that of the receipt. The last is whether
+/// the second try was refused because the route exists.
+fn submit_set<S: Alter + Drop, H: Wait + Copy + Drop>(
+    rt: H,
+    alloc: Global,
+    connection: Connection<S>,
+) -> Result<(u64, usize, u64, u64, bool), Refusal> {
+    let (mut publisher, domain) = adopted(alloc, connection)?;
+    let route = host_route(alloc, 1)?;
+    let mut set = ChangeSet::new(publisher.published())?;
+    set.add(&route)?;
+    let is_refused = set.add(&route).err() == Some(Refusal::Exists);
+    set.add(&host_route(alloc, 2)?)?;
+    let base = set.base().number();
+    let last = set.last().number();
+    let count = set.commands().len();
+    let receipt = publisher.submit_set(&rt, &domain, set)?;
+    Ok((base, count, last, receipt.number(), is_refused))
+}
+
+#[test]
+fn submits_a_set_of_two(rt: HostRuntime) -> Result<(), Fail> {
+    let alloc = rt.alloc();
+    let connection = Connection::open_in_memory(alloc)?;
+    assert!(rt; submit_set(rt, alloc, connection)? == (0, 2, 2, 2, true));
     Ok(())
 }

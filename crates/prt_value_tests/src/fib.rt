@@ -1,3 +1,4 @@
 //! Tests of compiled tables.
 
+mod following;
 mod lookups;

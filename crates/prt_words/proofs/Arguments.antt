@@ -10,9 +10,9 @@ use Rattle.clap.specs.Walk.{Row, Rule, Text, is_empty, first_of, one_of, has_row
 use Rattle.clap.specs.declared.parser.matches.ValueSource.TheVariants.{CommandLine, DefaultValue}
 use Rattle.clap.specs.declared.builder.value_parser.Reading.TheVariants.{AsWritten}
 use Rattle.prt_addr.specs.Word.{Word}
-use Rattle.prt_words.specs.CommandLine.{flag_rule, database_rule, file_rule}
+use Rattle.prt_words.specs.CommandLine.{flag_rule, database_rule, file_rule, option_rule}
 use Rattle.prt_words.specs.Tasks.{text_of_flag}
-use Rattle.prt_words.specs.Invocation.{Argument, Force, Atomic, Verbose, Database, File, Given, Subcommand, Batch, Check, Replay, has_given, with_given}
+use Rattle.prt_words.specs.Invocation.{Argument, Force, Atomic, Verbose, Database, Server, File, Given, Subcommand, Batch, Check, Replay, has_given, with_given}
 use Rattle.prt_words.proofs.Rows.{find_kept, find_last, row, valued}
 use Rattle.prt_words.proofs.WordClasses.{id_of, rules_of, shape_of}
 
@@ -20,6 +20,7 @@ use Rattle.prt_words.proofs.WordClasses.{id_of, rules_of, shape_of}
 
 abbrev pub text_of : Argument → Text
 text_of (Database path) = path
+text_of (Server place) = place
 text_of (File word) = word
 text_of _ = codes "true"
 
@@ -39,6 +40,7 @@ given_row given Force = flag_row Force given.forced
 given_row given Atomic = flag_row Atomic given.atomic
 given_row given Verbose = flag_row Verbose given.verbose
 given_row given (Database path) = option_map (λ p. row_of (Database p)) given.database
+given_row given (Server place) = option_map (λ p. row_of (Server p)) given.server
 given_row given (File word) = option_map (λ w. row_of (File w)) given.operand
 
 abbrev pub AreGiven : Given → List Row → Type 0
@@ -65,6 +67,7 @@ some_given given Force = some_flag Force given.forced
 some_given given Atomic = some_flag Atomic given.atomic
 some_given given Verbose = some_flag Verbose given.verbose
 some_given given (Database path) = some_mapped (λ p. row_of (Database p)) given.database
+some_given given (Server place) = some_mapped (λ p. row_of (Server p)) given.server
 some_given given (File word) = some_mapped (λ w. row_of (File w)) given.operand
 
 pub given_has : (given : Given) (rows : List Row) → AreGiven given rows → (a : Argument) → has_row (id_of a) rows ≡ has_given given a
@@ -76,6 +79,7 @@ one_more given rows Force none are Force = find_last (codes "force") rows (row_o
 one_more given rows Atomic none are Atomic = find_last (codes "atomic") rows (row_of Atomic) none refl
 one_more given rows Verbose none are Verbose = find_last (codes "verbose") rows (row_of Verbose) none refl
 one_more given rows (Database path) none are (Database other) = find_last (codes "db") rows (row_of (Database path)) none refl
+one_more given rows (Server place) none are (Server other) = find_last (codes "server") rows (row_of (Server place)) none refl
 one_more given rows (File word) none are (File other) = find_last (codes "file") rows (row_of (File word)) none refl
 one_more given rows a none are b = find_kept (id_of b) rows (row_of a) refl ∙ are b
 
@@ -105,6 +109,9 @@ built_atomic = with_index 1 (filled (flag_rule (codes "atomic")))
 
 abbrev built_database : Rule
 built_database = with_index 1 (filled database_rule)
+
+abbrev built_server : Rule
+built_server = with_index 1 (filled (option_rule (codes "server")))
 
 abbrev built_verbose : Rule
 built_verbose = with_index 1 (filled (flag_rule (codes "verbose")))
@@ -143,10 +150,12 @@ defaults_quiet Batch rows =
     let forced = with_default rows built_force in
     let joined = with_default forced built_atomic in
     let named = with_default joined built_database in
-    one_quiet rows built_force (built_atomic ∷ built_database ∷ built_verbose ∷ built_file ∷ built_help ∷ []) (force_quiet rows)
-    (one_quiet forced built_atomic (built_database ∷ built_verbose ∷ built_file ∷ built_help ∷ []) (atomic_quiet forced)
-    (one_quiet joined built_database (built_verbose ∷ built_file ∷ built_help ∷ []) (no_default joined built_database refl)
-    (one_quiet named built_verbose (built_file ∷ built_help ∷ []) (verbose_quiet named) (operand_quiet (with_default named built_verbose)))))
+    let served = with_default named built_server in
+    one_quiet rows built_force (built_atomic ∷ built_database ∷ built_server ∷ built_verbose ∷ built_file ∷ built_help ∷ []) (force_quiet rows)
+    (one_quiet forced built_atomic (built_database ∷ built_server ∷ built_verbose ∷ built_file ∷ built_help ∷ []) (atomic_quiet forced)
+    (one_quiet joined built_database (built_server ∷ built_verbose ∷ built_file ∷ built_help ∷ []) (no_default joined built_database refl)
+    (one_quiet named built_server (built_verbose ∷ built_file ∷ built_help ∷ []) (no_default named built_server refl)
+    (one_quiet served built_verbose (built_file ∷ built_help ∷ []) (verbose_quiet served) (operand_quiet (with_default served built_verbose))))))
 defaults_quiet Check rows = operand_quiet rows
 defaults_quiet Replay rows = operand_quiet rows
 
@@ -182,8 +191,9 @@ batch_defaults rows =
     let forced = with_default rows built_force in
     let joined = with_default forced built_atomic in
     let named = with_default joined built_database in
-    either _ _ ∙ either _ _ ∙ verbose_default named _ refl
-    ∙ ap (with_flag (codes "verbose")) (either _ joined ∙ atomic_default forced _ refl ∙ ap (with_flag (codes "atomic")) (force_default rows _ refl))
+    let served = with_default named built_server in
+    either _ _ ∙ either _ _ ∙ verbose_default served _ refl
+    ∙ ap (with_flag (codes "verbose")) (either _ named ∙ either _ joined ∙ atomic_default forced _ refl ∙ ap (with_flag (codes "atomic")) (force_default rows _ refl))
 
 -- a default adds nothing to another argument
 other_flag : (name id : Text) (rows : List Row) → bytes_eq name id ≡ false → find_row id (with_flag name rows) ≡ find_row id rows
@@ -255,3 +265,7 @@ file_at_end Replay given rows are =
 pub database_at_end : (given : Given) (rows : List Row) → AreGiven given rows → first_of (codes "db") (defaulted Batch rows) ≡ given.database
 database_at_end given rows are =
     named_in_batch (codes "db") rows refl refl refl ∙ ap (option_and_then (λ r. slice_get r.values 0)) (are (Database [])) ∙ first_value (λ p. row_of (Database p)) given.database (λ path. refl)
+
+pub server_at_end : (given : Given) (rows : List Row) → AreGiven given rows → first_of (codes "server") (defaulted Batch rows) ≡ given.server
+server_at_end given rows are =
+    named_in_batch (codes "server") rows refl refl refl ∙ ap (option_and_then (λ r. slice_get r.values 0)) (are (Server [])) ∙ first_value (λ p. row_of (Server p)) given.server (λ place. refl)

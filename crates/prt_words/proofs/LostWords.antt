@@ -8,9 +8,9 @@ use Rattle.clap.specs.Faults.{turn_fault, walk_fault, word_fault, step_fault, se
 use Rattle.clap.specs.Walk.{Held, Row, Rule, Text, Waiting, arg_by_long, arg_by_short, walked, word_met, settled, reacted, takes_values, attached_value, subcommand_met, idle, option as waits_for, positional}
 use Rattle.clap.specs.declared.error.kind.ErrorKind.TheVariants as kind
 use Rattle.prt_addr.specs.Word.{Word}
-use Rattle.prt_words.specs.Invocation.{Batch, is_delimiter, is_option, usage_error}
+use Rattle.prt_words.specs.Invocation.{Batch, DatabaseOption, ServerOption, Valued, is_delimiter, is_option, option_word, usage_error}
 use Rattle.prt_words.proofs.Walks.{Reads, word_mistaken, word_taken}
-use Rattle.prt_words.proofs.WordClasses.{Class, IsMistake, awaits_option, class_of, held_at, mistaken_or, rules_of, settles, shape_of, value_turn, walk_at, walk_when}
+use Rattle.prt_words.proofs.WordClasses.{Class, IsMistake, awaits_option, class_of, held_at, mistaken_or, rules_of, settles, shape_of, value_id, value_turn, walk_at, walk_when}
 use Rattle.prt_words.proofs.WordClasses as class
 
 -- what is pending cannot be used
@@ -98,44 +98,46 @@ option_mistaken waiting (byte ∷ rest) rows pending position plain option bad =
         (hyphened rest (subst (λ n. is_delimiter (n ∷ rest) ≡ false) (eqb-true byte 45 e) plain) (subst (λ n. is_option (n ∷ rest) ≡ true) (eqb-true byte 45 e) option))
     go false e = absurd (true≢false (sym option ∙ rw e refl))
 
--- ---- the words after the path of `--db`, if that cannot be used
+-- ---- the words after the value of an option, if that cannot be used
 
 abbrev pub position_of : Option Word → ℕ
 position_of None = 1
 position_of (Some word) = 2
 
-abbrev pending_path : List Text → Option (Text × List Text)
-pending_path values = Some (codes "db", values)
+abbrev pending_values : Valued → List Text → Option (Text × List Text)
+pending_values option values = Some (value_id option, values)
 
-value_mistaken : (waiting : Waiting) (word : Text) (rows : List Row) (values : List Text) (operand : Option Word) → IsLost rows (pending_path values)
-    → IsMistake (turn_fault (shape_of Batch) [] (walk_when waiting rows (pending_path values) (position_of operand) true) word)
-value_mistaken waiting word rows values None bad = bad
-value_mistaken waiting word rows values (Some file) bad = refl
+value_mistaken : (option : Valued) (waiting : Waiting) (word : Text) (rows : List Row) (values : List Text) (operand : Option Word) → IsLost rows (pending_values option values)
+    → IsMistake (turn_fault (shape_of Batch) [] (walk_when waiting rows (pending_values option values) (position_of operand) true) word)
+value_mistaken DatabaseOption waiting word rows values None bad = bad
+value_mistaken DatabaseOption waiting word rows values (Some file) bad = refl
+value_mistaken ServerOption waiting word rows values None bad = bad
+value_mistaken ServerOption waiting word rows values (Some file) bad = refl
 
 pub end_lost : (waiting : Waiting) (rows : List Row) (pending : Option (Text × List Text)) (position : ℕ) (trailing : Bool) → IsLost rows pending
     → Reads Batch usage_error (walk_when waiting rows pending position trailing) []
 unfolding walk_fault
 end_lost waiting rows pending position trailing bad = inl (mistaken_or _ _ bad)
 
-pub lost_operands : (waiting : Waiting) (rows : List Row) (values : List Text) (operand : Option Word) → IsLost rows (pending_path values) → (words : List Word)
-    → Reads Batch usage_error (walk_when waiting rows (pending_path values) (position_of operand) true) words
-lost_operands waiting rows values operand bad [] = end_lost waiting rows (pending_path values) (position_of operand) true bad
-lost_operands waiting rows values operand bad (word ∷ words) = word_mistaken Batch _ word words (value_mistaken waiting word rows values operand bad)
+pub lost_operands : (option : Valued) (waiting : Waiting) (rows : List Row) (values : List Text) (operand : Option Word) → IsLost rows (pending_values option values) → (words : List Word)
+    → Reads Batch usage_error (walk_when waiting rows (pending_values option values) (position_of operand) true) words
+lost_operands option waiting rows values operand bad [] = end_lost waiting rows (pending_values option values) (position_of operand) true bad
+lost_operands option waiting rows values operand bad (word ∷ words) = word_mistaken Batch _ word words (value_mistaken option waiting word rows values operand bad)
 
-pub lost : (rows : List Row) (values : List Text) (operand : Option Word) → IsLost rows (pending_path values) → (words : List Word)
-    → Reads Batch usage_error (walk_at rows (pending_path values) (position_of operand) false) words
+pub lost : (option : Valued) (rows : List Row) (values : List Text) (operand : Option Word) → IsLost rows (pending_values option values) → (words : List Word)
+    → Reads Batch usage_error (walk_at rows (pending_values option values) (position_of operand) false) words
 unfolding walked
-lost rows values operand bad [] = end_lost idle rows (pending_path values) (position_of operand) false bad
-lost rows values operand bad (word ∷ words) = go (class_of Batch word)
+lost option rows values operand bad [] = end_lost idle rows (pending_values option values) (position_of operand) false bad
+lost option rows values operand bad (word ∷ words) = go (class_of Batch word)
   where
-    option : is_delimiter word ≡ false → is_option word ≡ true → Reads Batch usage_error (walk_at rows (pending_path values) (position_of operand) false) (word ∷ words)
-    option plain is = word_mistaken Batch _ word words (option_mistaken idle word rows (pending_path values) (position_of operand) plain is bad)
+    mistaken : is_delimiter word ≡ false → is_option word ≡ true → Reads Batch usage_error (walk_at rows (pending_values option values) (position_of operand) false) (word ∷ words)
+    mistaken plain is = word_mistaken Batch _ word words (option_mistaken idle word rows (pending_values option values) (position_of operand) plain is bad)
 
-    go : Class Batch word → Reads Batch usage_error (walk_at rows (pending_path values) (position_of operand) false) (word ∷ words)
-    go (class.delimiter is) = subst (λ w. Reads Batch usage_error (walk_at rows (pending_path values) (position_of operand) false) (w ∷ words)) (sym is)
-        (word_taken Batch usage_error _ (walk_at rows (pending_path values) (position_of operand) true) (codes "--") words refl refl (lost_operands idle rows values operand bad words))
-    go (class.help h) = option h.no_delimiter h.is_one
-    go (class.unknown u) = option u.no_delimiter u.is_one
-    go (class.gives a batch g) = option g.no_delimiter g.is_one
-    go (class.awaits batch is) = option (subst (λ w. is_delimiter w ≡ false) (sym is) awaits_option.0) (subst (λ w. is_option w ≡ true) (sym is) awaits_option.1)
-    go (class.operand o) = word_mistaken Batch _ word words (subst IsMistake (sym (o.turn rows (pending_path values) (position_of operand))) (value_mistaken idle word rows values operand bad))
+    go : Class Batch word → Reads Batch usage_error (walk_at rows (pending_values option values) (position_of operand) false) (word ∷ words)
+    go (class.delimiter is) = subst (λ w. Reads Batch usage_error (walk_at rows (pending_values option values) (position_of operand) false) (w ∷ words)) (sym is)
+        (word_taken Batch usage_error _ (walk_at rows (pending_values option values) (position_of operand) true) (codes "--") words refl refl (lost_operands option idle rows values operand bad words))
+    go (class.help h) = mistaken h.no_delimiter h.is_one
+    go (class.unknown u) = mistaken u.no_delimiter u.is_one
+    go (class.gives a batch g) = mistaken g.no_delimiter g.is_one
+    go (class.awaits other batch is) = mistaken (subst (λ w. is_delimiter w ≡ false) (sym is) (awaits_option other).0) (subst (λ w. is_option w ≡ true) (sym is) (awaits_option other).1)
+    go (class.operand o) = word_mistaken Batch _ word words (subst IsMistake (sym (o.turn rows (pending_values option values) (position_of operand))) (value_mistaken option idle word rows values operand bad))

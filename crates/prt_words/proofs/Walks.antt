@@ -8,9 +8,11 @@ use Rattle.clap.specs.Walk.{Held, Row, Text, Walk, walked, settled, finished}
 use Rattle.clap.specs.declared.error.kind.ErrorKind.{ErrorKind}
 use Rattle.clap.specs.declared.error.kind.ErrorKind.TheVariants as kind
 use Rattle.prt_addr.specs.Word.{Word}
-use Rattle.prt_words.specs.Tasks.{asks_question, flag_text, named_database, named_file, subcommand_name, text_of_flag}
+use Rattle.prt_words.specs.Tasks.{asks_question, flag_text, named_database, named_file, named_server, subcommand_name, text_of_flag}
+use Rattle.prt_refusals.specs.declared.on_refusal.OnRefusal.{OnRefusal}
 use Rattle.prt_words.specs.declared.task.Mode.{Mode}
-use Rattle.prt_words.specs.Invocation.{Invocation, ArgumentPlace, Part, Given, Subcommand, Batch, Check, Replay, ask, asked_by, asked_with, batch, check, file_of, has_help, help, help_on, mode_of, part_at, replay, serve, usage_error, version}
+use Rattle.prt_words.specs.declared.task.Mode.TheVariants.{InTurn, Together}
+use Rattle.prt_words.specs.Invocation.{Invocation, ArgumentPlace, Part, Given, Subcommand, Batch, Check, Replay, ask, asked_by, asked_with, batch, check, file_of, has_help, help, help_on, mode_of, part_at, replay, serve, submit, usage_error, version}
 use Rattle.prt_words.proofs.HelpWords.{AreBad}
 use Rattle.prt_words.proofs.WordClasses.{IsMistake, mistaken_or, rules_of, shape_of}
 
@@ -23,9 +25,18 @@ name_of Replay = codes "replay"
 abbrev pub HasMode : Option Mode → Option (Text × List Row) → Type 0
 HasMode mode found = (forced atomic : Bool) × (flag_text (codes "force") found ≡ Some (text_of_flag forced)) × (flag_text (codes "atomic") found ≡ Some (text_of_flag atomic)) × (mode_of forced atomic ≡ mode)
 
--- a script that was found without an error can be executed in no way
+-- a server is named
+abbrev pub HasServer : Option (Text × List Row) → Type 0
+HasServer found = (server : Text) × (named_server found ≡ Some server)
+
+-- a script that was found without an error can be executed in no way: as its words ask, or by a server line by line, or by a server and over a database
 abbrev pub HasConflict : Kinds → Option (Text × List Row) → Type 0
-HasConflict kinds found = (kinds ≡ []) × (subcommand_name found ≡ Some (codes "batch")) × HasMode None found
+HasConflict kinds found =
+    (kinds ≡ [])
+    × (subcommand_name found ≡ Some (codes "batch"))
+    × (HasMode None found
+    ⊎ ((HasServer found × ((on_refusal : OnRefusal) × HasMode (Some (InTurn on_refusal)) found))
+    ⊎ (HasServer found × ((path : Text) × (named_database found ≡ Some path)))))
 
 -- what a parse finds is what the words ask for: the kinds of error, and the subcommand with its rows
 abbrev pub Agrees : Invocation → Kinds → Option (Text × List Row) → Type 0
@@ -36,6 +47,15 @@ Agrees (batch script) kinds found =
     × (named_database found ≡ script.database)
     × HasMode (Some script.mode) found
     × (flag_text (codes "verbose") found ≡ Some (text_of_flag script.verbose))
+    × (named_server found ≡ None)
+Agrees (submit script) kinds found =
+    (kinds ≡ [])
+    × (subcommand_name found ≡ Some (codes "batch"))
+    × (option_and_then file_of (named_file found) ≡ script.file)
+    × (named_database found ≡ None)
+    × HasMode (Some Together) found
+    × (flag_text (codes "verbose") found ≡ Some (text_of_flag script.verbose))
+    × (named_server found ≡ Some script.server)
 Agrees (check file) kinds found =
     (kinds ≡ [])
     × (subcommand_name found ≡ Some (codes "check"))

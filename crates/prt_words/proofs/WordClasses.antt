@@ -14,8 +14,8 @@ use Rattle.clap.specs.Faults.{is_simple_and_free}
 use Rattle.clap.specs.Walk.{bundle_met, Held, Row, Rule, Text, Waiting, Walk, walked, idle, option as waits_for, to_positional, arg_by_index}
 use Rattle.clap.specs.declared.error.kind.ErrorKind.{ErrorKind}
 use Rattle.clap.specs.declared.error.kind.ErrorKind.TheVariants as kind
-use Rattle.prt_words.specs.CommandLine.{command_line, batch_line, check_line, replay_line, flag_rule, database_rule, file_rule}
-use Rattle.prt_words.specs.Invocation.{Argument, Force, Atomic, Verbose, Database, File, asks_help, argument, unknown as unknown_part, Subcommand, Batch, Check, Replay, is_delimiter, is_equals, is_help, is_option, option_part, part_of}
+use Rattle.prt_words.specs.CommandLine.{command_line, batch_line, check_line, replay_line, flag_rule, database_rule, file_rule, option_rule}
+use Rattle.prt_words.specs.Invocation.{Argument, Force, Atomic, Verbose, Database, Server, File, Valued, DatabaseOption, ServerOption, asks_help, argument, unknown as unknown_part, Subcommand, Batch, Check, Replay, is_delimiter, is_equals, is_help, is_option, option_part, option_word, part_of}
 
 pub simple_line : is_simple command_line ≡ true
 simple_line = refl
@@ -25,7 +25,7 @@ free_line = refl
 
 -- a subcommand as it is built
 abbrev pub rules_of : Subcommand → List Rule
-rules_of Batch = filled_from 1 (flag_rule (codes "force") ∷ flag_rule (codes "atomic") ∷ database_rule ∷ flag_rule (codes "verbose") ∷ file_rule ∷ help_rule ∷ [])
+rules_of Batch = filled_from 1 (flag_rule (codes "force") ∷ flag_rule (codes "atomic") ∷ database_rule ∷ option_rule (codes "server") ∷ flag_rule (codes "verbose") ∷ file_rule ∷ help_rule ∷ [])
 rules_of Check = filled_from 1 (file_rule ∷ help_rule ∷ [])
 rules_of Replay = filled_from 1 (file_rule ∷ help_rule ∷ [])
 
@@ -53,9 +53,14 @@ walk_when waiting rows pending position trailing = record {
 abbrev pub walk_at : List Row → Option (Text × List Text) → ℕ → Bool → Walk
 walk_at = walk_when idle
 
--- after `--db`
-abbrev pub walk_waiting : List Row → ℕ → Walk
-walk_waiting rows position = walk_when (waits_for (codes "db")) rows (Some (codes "db", [])) position false
+-- what an option is called whose value may be the next word
+abbrev pub value_id : Valued → Text
+value_id DatabaseOption = codes "db"
+value_id ServerOption = codes "server"
+
+-- after it
+abbrev pub walk_waiting : Valued → List Row → ℕ → Walk
+walk_waiting option rows position = walk_when (waits_for (value_id option)) rows (Some (value_id option, [])) position false
 
 -- a kind of error that is no request for help
 abbrev pub is_mistake : ErrorKind → Bool
@@ -109,10 +114,12 @@ id_of Force = codes "force"
 id_of Atomic = codes "atomic"
 id_of Verbose = codes "verbose"
 id_of (Database path) = codes "db"
+id_of (Server place) = codes "server"
 id_of (File word) = codes "file"
 
 abbrev pub attached_to : Argument → Option Text
 attached_to (Database path) = Some path
+attached_to (Server place) = Some place
 attached_to _ = None
 
 abbrev IsNamed : Argument → Type 0
@@ -127,15 +134,20 @@ pub record Gives (word : Text) (a : Argument) : Type 0 where
   pub named : IsNamed a
   pub long : long_of word ≡ Some (id_of a, attached_to a)
 
--- an operand, which is met as a value is after `--`, and is the path after `--db`
+-- the word is taken as the value of the option before it
+abbrev pub IsTaken : Text → Valued → Type 0
+IsTaken word option = (rows : List Row) (position : ℕ)
+    → (turn_fault (shape_of Batch) [] (walk_waiting option rows position) word ≡ [])
+    × (walked (rules_of Batch) [] (walk_waiting option rows position) word ≡ walk_at rows (Some (value_id option, word ∷ [])) position false)
+
+-- an operand, which is met as a value is after `--`, and is the value after such an option
 pub record Operand (s : Subcommand) (word : Text) : Type 0 where
   pub no_option : is_option word ≡ false
   pub part : part_of s word ≡ argument (File word)
   pub turn : (rows : List Row) (pending : Option (Text × List Text)) (position : ℕ) → word_turn s word rows pending position ≡ value_turn s word rows pending position
   pub next : (rows : List Row) (pending : Option (Text × List Text)) (position : ℕ)
       → walked (rules_of s) [] (walk_at rows pending position false) word ≡ after_operand s word rows pending position false
-  pub path_turn : (rows : List Row) (position : ℕ) → turn_fault (shape_of Batch) [] (walk_waiting rows position) word ≡ []
-  pub path_next : (rows : List Row) (position : ℕ) → walked (rules_of Batch) [] (walk_waiting rows position) word ≡ walk_at rows (Some (codes "db", word ∷ [])) position false
+  pub taken : (option : Valued) → IsTaken word option
 
 abbrev pub IsBatch : Subcommand → Type 0
 IsBatch Batch = Unit {0}
@@ -147,7 +159,7 @@ pub data Class (s : Subcommand) (word : Text) : Type 0 where
   help : Help s word → Class s word
   unknown : Unknown s word → Class s word
   gives : (a : Argument) → IsBatch s → Gives word a → Class s word
-  awaits : IsBatch s → word ≡ codes "--db" → Class s word
+  awaits : (option : Valued) → IsBatch s → word ≡ option_word option → Class s word
   operand : Operand s word → Class s word
 
 -- ---- the parts
@@ -166,6 +178,11 @@ operand_part s word plain no_help no_option = rw (plain, no_help, no_option) ref
 
 -- ---- a hyphen alone, nothing, and what begins with no hyphen
 
+empty_taken : (option : Valued) → IsTaken [] option
+unfolding clap_on_literals
+empty_taken DatabaseOption rows position = (refl, refl)
+empty_taken ServerOption rows position = (refl, refl)
+
 empty_word : (s : Subcommand) → Operand s []
 unfolding clap_on_literals
 empty_word s = record {
@@ -173,9 +190,13 @@ empty_word s = record {
   part = refl;
   turn = λ rows pending position. refl;
   next = λ rows pending position. refl;
-  path_turn = λ rows position. refl;
-  path_next = λ rows position. refl;
+  taken = empty_taken;
 }
+
+hyphen_taken : (option : Valued) → IsTaken (codes "-") option
+unfolding clap_on_literals
+hyphen_taken DatabaseOption rows position = (refl, refl)
+hyphen_taken ServerOption rows position = (refl, refl)
 
 hyphen_word : (s : Subcommand) → Operand s (codes "-")
 unfolding clap_on_literals
@@ -184,9 +205,13 @@ hyphen_word s = record {
   part = refl;
   turn = λ rows pending position. refl;
   next = λ rows pending position. refl;
-  path_turn = λ rows position. refl;
-  path_next = λ rows position. refl;
+  taken = hyphen_taken;
 }
+
+plain_taken : (byte : ℕ) (rest : Text) → (byte == 45) ≡ false → (option : Valued) → IsTaken (byte ∷ rest) option
+unfolding clap_on_literals
+plain_taken byte rest plain DatabaseOption rows position = (rw (plain, plain) refl, rw (plain, plain) refl)
+plain_taken byte rest plain ServerOption rows position = (rw (plain, plain) refl, rw (plain, plain) refl)
 
 plain_word : (s : Subcommand) (byte : ℕ) (rest : Text) → (byte == 45) ≡ false → Operand s (byte ∷ rest)
 unfolding clap_on_literals
@@ -195,8 +220,7 @@ plain_word s byte rest plain = record {
   part = operand_part s (byte ∷ rest) (rw plain refl) (rw plain refl) (rw plain refl);
   turn = λ rows pending position. rw (plain, plain) refl;
   next = λ rows pending position. rw (plain, plain) refl;
-  path_turn = λ rows position. rw (plain, plain) refl;
-  path_next = λ rows position. rw (plain, plain) refl;
+  taken = plain_taken byte rest plain;
 }
 
 -- ---- texts up to `=` (61)
@@ -285,10 +309,22 @@ no_database_name byte rest short = ap (λ xs. bytes_eq xs (codes "--db")) (befor
     go true e = ap (λ xs. bytes_eq (45 ∷ xs) (codes "--db")) (before_hit is_equals byte rest e)
     go false e = ap (λ xs. bytes_eq (45 ∷ xs) (codes "--db")) (before_miss is_equals byte rest e) ∙ rw short refl
 
+no_server_name : (byte : ℕ) (rest : Text) → (byte == 45) ≡ false → bytes_eq (before_first is_equals (45 ∷ byte ∷ rest)) (codes "--server") ≡ false
+no_server_name byte rest short = ap (λ xs. bytes_eq xs (codes "--server")) (before_miss is_equals 45 (byte ∷ rest) refl) ∙ go (is_equals byte) refl
+  where
+    go : (hit : Bool) → is_equals byte ≡ hit → bytes_eq (45 ∷ before_first is_equals (byte ∷ rest)) (codes "--server") ≡ false
+    go true e = ap (λ xs. bytes_eq (45 ∷ xs) (codes "--server")) (before_hit is_equals byte rest e)
+    go false e = ap (λ xs. bytes_eq (45 ∷ xs) (codes "--server")) (before_miss is_equals byte rest e) ∙ rw short refl
+
 short_part : (s : Subcommand) (byte : ℕ) (rest : Text) → (byte == 45) ≡ false → option_part s (45 ∷ byte ∷ rest) ≡ unknown_part
 short_part Check byte rest short = refl
 short_part Replay byte rest short = refl
-short_part Batch byte rest short = rw (short, no_database_name byte rest short) refl
+short_part Batch byte rest short = rw (short, no_database_name byte rest short, no_server_name byte rest short) refl
+
+short_taken : (byte : ℕ) (rest : Text) → (byte == 45) ≡ false → slice_get (chars (byte ∷ rest)) 0 ≡ None → (option : Valued) → IsTaken (45 ∷ byte ∷ rest) option
+unfolding walked bundle_met flags_fault
+short_taken byte rest short first DatabaseOption rows position = (rw (short, short, first) refl, rw (short, short, first) refl)
+short_taken byte rest short first ServerOption rows position = (rw (short, short, first) refl, rw (short, short, first) refl)
 
 short_word : (s : Subcommand) (byte : ℕ) (rest : Text) (letter : Option ℕ) → (byte == 45) ≡ false → slice_get (chars (byte ∷ rest)) 0 ≡ letter → short_turn s letter (45 ∷ byte ∷ rest)
 unfolding walked bundle_met flags_fault short_turn
@@ -297,8 +333,7 @@ short_word s byte rest None short first = record {
   part = operand_part s (45 ∷ byte ∷ rest) (rw short refl) (rw (short, first) refl) (rw first refl);
   turn = λ rows pending position. rw (short, short, first) refl;
   next = λ rows pending position. rw (short, short, first) refl;
-  path_turn = λ rows position. rw (short, short, first) refl;
-  path_next = λ rows position. rw (short, short, first) refl;
+  taken = short_taken byte rest short first;
 }
 short_word s byte rest (Some letter) short first = (
   λ is_h. record {
@@ -323,6 +358,7 @@ record NoName (text : Text) : Type 0 where
   no_atomic : bytes_eq text (codes "atomic") ≡ false
   no_verbose : bytes_eq text (codes "verbose") ≡ false
   no_database : bytes_eq text (codes "db") ≡ false
+  no_server : bytes_eq text (codes "server") ≡ false
   no_help : bytes_eq text (codes "help") ≡ false
 
 -- a name that is none of theirs
@@ -331,6 +367,7 @@ record IsOther (name : Text) : Type 0 where
   no_atomic : bytes_eq (codes "atomic") name ≡ false
   no_verbose : bytes_eq (codes "verbose") name ≡ false
   no_database : bytes_eq (codes "db") name ≡ false
+  no_server : bytes_eq (codes "server") name ≡ false
   no_help : bytes_eq (codes "help") name ≡ false
 
 data Name (name : Text) : Type 0 where
@@ -338,17 +375,19 @@ data Name (name : Text) : Type 0 where
   atomic_name : name ≡ codes "atomic" → Name name
   verbose_name : name ≡ codes "verbose" → Name name
   database_name : name ≡ codes "db" → Name name
+  server_name : name ≡ codes "server" → Name name
   help_name : name ≡ codes "help" → Name name
   other_name : IsOther name → Name name
 
-name_by : (name : Text) (is_force is_atomic is_verbose is_database is_help : Bool) → bytes_eq (codes "force") name ≡ is_force → bytes_eq (codes "atomic") name ≡ is_atomic → bytes_eq (codes "verbose") name ≡ is_verbose
-    → bytes_eq (codes "db") name ≡ is_database → bytes_eq (codes "help") name ≡ is_help → Name name
-name_by name true _ _ _ _ f a v d h = force_name (sym (same_bytes _ _ f))
-name_by name false true _ _ _ f a v d h = atomic_name (sym (same_bytes _ _ a))
-name_by name false false true _ _ f a v d h = verbose_name (sym (same_bytes _ _ v))
-name_by name false false false true _ f a v d h = database_name (sym (same_bytes _ _ d))
-name_by name false false false false true f a v d h = help_name (sym (same_bytes _ _ h))
-name_by name false false false false false f a v d h = other_name (record { no_force = f; no_atomic = a; no_verbose = v; no_database = d; no_help = h })
+name_by : (name : Text) (is_force is_atomic is_verbose is_database is_server is_help : Bool) → bytes_eq (codes "force") name ≡ is_force → bytes_eq (codes "atomic") name ≡ is_atomic → bytes_eq (codes "verbose") name ≡ is_verbose
+    → bytes_eq (codes "db") name ≡ is_database → bytes_eq (codes "server") name ≡ is_server → bytes_eq (codes "help") name ≡ is_help → Name name
+name_by name true _ _ _ _ _ f a v d s h = force_name (sym (same_bytes _ _ f))
+name_by name false true _ _ _ _ f a v d s h = atomic_name (sym (same_bytes _ _ a))
+name_by name false false true _ _ _ f a v d s h = verbose_name (sym (same_bytes _ _ v))
+name_by name false false false true _ _ f a v d s h = database_name (sym (same_bytes _ _ d))
+name_by name false false false false true _ f a v d s h = server_name (sym (same_bytes _ _ s))
+name_by name false false false false false true f a v d s h = help_name (sym (same_bytes _ _ h))
+name_by name false false false false false false f a v d s h = other_name (record { no_force = f; no_atomic = a; no_verbose = v; no_database = d; no_server = s; no_help = h })
 
 valued_no_name : (text : Text) → has_byte 61 text ≡ true → NoName text
 valued_no_name text has = record {
@@ -356,6 +395,7 @@ valued_no_name text has = record {
   no_atomic = differs text (codes "atomic") (no_value_in text (codes "atomic") refl has);
   no_verbose = differs text (codes "verbose") (no_value_in text (codes "verbose") refl has);
   no_database = differs text (codes "db") (no_value_in text (codes "db") refl has);
+  no_server = differs text (codes "server") (no_value_in text (codes "server") refl has);
   no_help = differs text (codes "help") (no_value_in text (codes "help") refl has);
 }
 
@@ -365,13 +405,14 @@ other_no_name text other = record {
   no_atomic = differs text (codes "atomic") (no_name_of text (codes "atomic") other.no_atomic refl refl);
   no_verbose = differs text (codes "verbose") (no_name_of text (codes "verbose") other.no_verbose refl refl);
   no_database = differs text (codes "db") (no_name_of text (codes "db") other.no_database refl refl);
+  no_server = differs text (codes "server") (no_name_of text (codes "server") other.no_server refl refl);
   no_help = differs text (codes "help") (no_name_of text (codes "help") other.no_help refl refl);
 }
 
 -- one that there is not, a flag with a value, and help with a value
 long_unknown : (word name : Text) (value : Option Text) → is_delimiter word ≡ false → long_of word ≡ Some (name, value) → IsOther name
     → (rows : List Row) (pending : Option (Text × List Text)) (position : ℕ) → IsMistake (word_turn Batch word rows pending position)
-long_unknown word name value plain long other rows pending position = rw (plain, long, other.no_force, other.no_atomic, other.no_database, other.no_verbose, other.no_help) refl
+long_unknown word name value plain long other rows pending position = rw (plain, long, other.no_force, other.no_atomic, other.no_database, other.no_server, other.no_verbose, other.no_help) refl
 
 flag_valued : (word value : Text) (a : Argument) → attached_to a ≡ None → IsNamed a → is_delimiter word ≡ false → long_of word ≡ Some (id_of a, Some value)
     → (rows : List Row) (pending : Option (Text × List Text)) (position : ℕ) → IsMistake (word_turn Batch word rows pending position)
@@ -379,6 +420,7 @@ flag_valued word value Force alone named plain long rows pending position = rw (
 flag_valued word value Atomic alone named plain long rows pending position = rw (plain, long) refl
 flag_valued word value Verbose alone named plain long rows pending position = rw (plain, long) refl
 flag_valued word value (Database path) alone named plain long rows pending position = absurd (true≢false (ap is_some alone))
+flag_valued word value (Server place) alone named plain long rows pending position = absurd (true≢false (ap is_some alone))
 flag_valued word value (File path) alone named plain long rows pending position = absurd named
 
 help_valued : (s : Subcommand) (word value : Text) → is_delimiter word ≡ false → long_of word ≡ Some (codes "help", Some value)
@@ -421,13 +463,15 @@ verbose_word : Gives (codes "--verbose") Verbose
 unfolding clap_on_literals
 verbose_word = record { no_delimiter = refl; is_one = refl; part = refl; named = tt; long = refl }
 
-pub awaits_option : (is_delimiter (codes "--db") ≡ false) × (is_option (codes "--db") ≡ true)
+pub awaits_option : (option : Valued) → (is_delimiter (option_word option) ≡ false) × (is_option (option_word option) ≡ true)
 unfolding clap_on_literals
-awaits_option = (refl, refl)
+awaits_option DatabaseOption = (refl, refl)
+awaits_option ServerOption = (refl, refl)
 
 -- what the definition makes of one
-long_part : (text : Text) → NoName text → option_part Batch (45 ∷ 45 ∷ text) ≡ cond (bytes_eq (long_name text) (codes "db")) (argument (Database (after_first is_equals text))) unknown_part
-long_part text none = rw (none.no_force, none.no_atomic, none.no_verbose, none.no_database, before_hyphens text, after_hyphens text) refl
+long_part : (text : Text) → NoName text → option_part Batch (45 ∷ 45 ∷ text)
+    ≡ cond (bytes_eq (long_name text) (codes "db")) (argument (Database (after_first is_equals text))) (cond (bytes_eq (long_name text) (codes "server")) (argument (Server (after_first is_equals text))) unknown_part)
+long_part text none = rw (none.no_force, none.no_atomic, none.no_verbose, none.no_database, none.no_server, before_hyphens text, after_hyphens text) refl
 
 unknown_option : (s : Subcommand) (byte : ℕ) (rest : Text) → bytes_eq (byte ∷ rest) (codes "help") ≡ false → option_part s (45 ∷ 45 ∷ byte ∷ rest) ≡ unknown_part
     → ((rows : List Row) (pending : Option (Text × List Text)) (position : ℕ) → IsMistake (word_turn s (45 ∷ 45 ∷ byte ∷ rest) rows pending position))
@@ -440,11 +484,10 @@ unknown_option s byte rest no_help part turn = record {
   turn = turn;
 }
 
-batch_unknown : (byte : ℕ) (rest : Text) → NoName (byte ∷ rest) → bytes_eq (long_name (byte ∷ rest)) (codes "db") ≡ false
+batch_unknown : (byte : ℕ) (rest : Text) → NoName (byte ∷ rest) → bytes_eq (long_name (byte ∷ rest)) (codes "db") ≡ false → bytes_eq (long_name (byte ∷ rest)) (codes "server") ≡ false
     → ((rows : List Row) (pending : Option (Text × List Text)) (position : ℕ) → IsMistake (word_turn Batch (45 ∷ 45 ∷ byte ∷ rest) rows pending position))
     → Class Batch (45 ∷ 45 ∷ byte ∷ rest)
-batch_unknown byte rest none no_database turn = unknown (unknown_option Batch byte rest none.no_help
-    (long_part (byte ∷ rest) none ∙ ap (λ b. cond b (argument (Database (after_first is_equals (byte ∷ rest)))) unknown_part) no_database) turn)
+batch_unknown byte rest none no_database no_server turn = unknown (unknown_option Batch byte rest none.no_help (long_part (byte ∷ rest) none ∙ rw (no_database, no_server) refl) turn)
 
 database_valued : (byte : ℕ) (rest : Text) → long_name (byte ∷ rest) ≡ codes "db" → has_byte 61 (byte ∷ rest) ≡ true → Gives (45 ∷ 45 ∷ byte ∷ rest) (Database (after_first is_equals (byte ∷ rest)))
 unfolding chars
@@ -453,7 +496,19 @@ database_valued byte rest name has = record {
   is_one = refl;
   part = no_help_part Batch (45 ∷ 45 ∷ byte ∷ rest) refl (rw (valued_no_name (byte ∷ rest) has).no_help refl) refl
       ∙ long_part (byte ∷ rest) (valued_no_name (byte ∷ rest) has)
-      ∙ ap (λ xs. cond (bytes_eq xs (codes "db")) (argument (Database (after_first is_equals (byte ∷ rest)))) unknown_part) name;
+      ∙ ap (λ xs. cond (bytes_eq xs (codes "db")) (argument (Database (after_first is_equals (byte ∷ rest)))) (cond (bytes_eq xs (codes "server")) (argument (Server (after_first is_equals (byte ∷ rest)))) unknown_part)) name;
+  named = tt;
+  long = long_of_is byte rest true has ∙ ap (λ xs. Some (xs, Some (after_first is_equals (byte ∷ rest)))) name;
+}
+
+server_valued : (byte : ℕ) (rest : Text) → long_name (byte ∷ rest) ≡ codes "server" → has_byte 61 (byte ∷ rest) ≡ true → Gives (45 ∷ 45 ∷ byte ∷ rest) (Server (after_first is_equals (byte ∷ rest)))
+unfolding chars
+server_valued byte rest name has = record {
+  no_delimiter = refl;
+  is_one = refl;
+  part = no_help_part Batch (45 ∷ 45 ∷ byte ∷ rest) refl (rw (valued_no_name (byte ∷ rest) has).no_help refl) refl
+      ∙ long_part (byte ∷ rest) (valued_no_name (byte ∷ rest) has)
+      ∙ ap (λ xs. cond (bytes_eq xs (codes "db")) (argument (Database (after_first is_equals (byte ∷ rest)))) (cond (bytes_eq xs (codes "server")) (argument (Server (after_first is_equals (byte ∷ rest)))) unknown_part)) name;
   named = tt;
   long = long_of_is byte rest true has ∙ ap (λ xs. Some (xs, Some (after_first is_equals (byte ∷ rest)))) name;
 }
@@ -462,22 +517,24 @@ database_valued byte rest name has = record {
 named_word : (byte : ℕ) (rest name : Text) → long_name (byte ∷ rest) ≡ name → has_byte 61 (byte ∷ rest) ≡ false → (45 ∷ 45 ∷ name) ≡ (45 ∷ 45 ∷ byte ∷ rest)
 named_word byte rest name is none = ap (λ xs. 45 ∷ 45 ∷ xs) (sym is ∙ before_none is_equals (byte ∷ rest) none)
 
-flag_class : (byte : ℕ) (rest : Text) (a : Argument) → attached_to a ≡ None → IsNamed a → Gives (45 ∷ 45 ∷ id_of a) a → bytes_eq (id_of a) (codes "db") ≡ false → long_name (byte ∷ rest) ≡ id_of a
+flag_class : (byte : ℕ) (rest : Text) (a : Argument) → attached_to a ≡ None → IsNamed a → Gives (45 ∷ 45 ∷ id_of a) a → bytes_eq (id_of a) (codes "db") ≡ false → bytes_eq (id_of a) (codes "server") ≡ false → long_name (byte ∷ rest) ≡ id_of a
     → (has : Bool) → has_byte 61 (byte ∷ rest) ≡ has → Class Batch (45 ∷ 45 ∷ byte ∷ rest)
-flag_class byte rest a alone named given other is false none = gives a tt (subst (λ w. Gives w a) (named_word byte rest (id_of a) is none) given)
-flag_class byte rest a alone named given other is true has = batch_unknown byte rest (valued_no_name (byte ∷ rest) has) (rw is other)
+flag_class byte rest a alone named given other another is false none = gives a tt (subst (λ w. Gives w a) (named_word byte rest (id_of a) is none) given)
+flag_class byte rest a alone named given other another is true has = batch_unknown byte rest (valued_no_name (byte ∷ rest) has) (rw is other) (rw is another)
     (flag_valued (45 ∷ 45 ∷ byte ∷ rest) _ a alone named refl (long_of_is byte rest true has ∙ ap (λ xs. Some (xs, Some (after_first is_equals (byte ∷ rest)))) is))
 
 batch_long : (byte : ℕ) (rest : Text) → Name (long_name (byte ∷ rest)) → (has : Bool) → has_byte 61 (byte ∷ rest) ≡ has → Class Batch (45 ∷ 45 ∷ byte ∷ rest)
-batch_long byte rest (force_name is) has v = flag_class byte rest Force refl tt force_word refl is has v
-batch_long byte rest (atomic_name is) has v = flag_class byte rest Atomic refl tt atomic_word refl is has v
-batch_long byte rest (verbose_name is) has v = flag_class byte rest Verbose refl tt verbose_word refl is has v
-batch_long byte rest (database_name is) false v = awaits tt (sym (named_word byte rest (codes "db") is v))
+batch_long byte rest (force_name is) has v = flag_class byte rest Force refl tt force_word refl refl is has v
+batch_long byte rest (atomic_name is) has v = flag_class byte rest Atomic refl tt atomic_word refl refl is has v
+batch_long byte rest (verbose_name is) has v = flag_class byte rest Verbose refl tt verbose_word refl refl is has v
+batch_long byte rest (server_name is) false v = awaits ServerOption tt (sym (named_word byte rest (codes "server") is v))
+batch_long byte rest (server_name is) true v = gives (Server (after_first is_equals (byte ∷ rest))) tt (server_valued byte rest is v)
+batch_long byte rest (database_name is) false v = awaits DatabaseOption tt (sym (named_word byte rest (codes "db") is v))
 batch_long byte rest (database_name is) true v = gives (Database (after_first is_equals (byte ∷ rest))) tt (database_valued byte rest is v)
 batch_long byte rest (help_name is) false v = help (subst (Help Batch) (named_word byte rest (codes "help") is v) (long_help Batch))
-batch_long byte rest (help_name is) true v = batch_unknown byte rest (valued_no_name (byte ∷ rest) v) (rw is refl)
+batch_long byte rest (help_name is) true v = batch_unknown byte rest (valued_no_name (byte ∷ rest) v) (rw is refl) (rw is refl)
     (help_valued Batch (45 ∷ 45 ∷ byte ∷ rest) _ refl (long_of_is byte rest true v ∙ ap (λ xs. Some (xs, Some (after_first is_equals (byte ∷ rest)))) is))
-batch_long byte rest (other_name other) has v = batch_unknown byte rest (other_no_name (byte ∷ rest) other) (flipped (codes "db") (long_name (byte ∷ rest)) other.no_database)
+batch_long byte rest (other_name other) has v = batch_unknown byte rest (other_no_name (byte ∷ rest) other) (flipped (codes "db") (long_name (byte ∷ rest)) other.no_database) (flipped (codes "server") (long_name (byte ∷ rest)) other.no_server)
     (long_unknown (45 ∷ 45 ∷ byte ∷ rest) _ _ refl (long_of_is byte rest has v) other)
 
 plain_long : (s : Subcommand) → IsPlain s → (byte : ℕ) (rest : Text) (is_help : Bool) → bytes_eq (codes "help") (long_name (byte ∷ rest)) ≡ is_help → (has : Bool) → has_byte 61 (byte ∷ rest) ≡ has → Class s (45 ∷ 45 ∷ byte ∷ rest)
@@ -488,7 +545,7 @@ plain_long s none byte rest false h has v = unknown (unknown_option s byte rest 
     (plain_unknown s none (45 ∷ 45 ∷ byte ∷ rest) _ _ refl (long_of_is byte rest has v) h))
 
 long_word : (s : Subcommand) (byte : ℕ) (rest : Text) → Class s (45 ∷ 45 ∷ byte ∷ rest)
-long_word Batch byte rest = batch_long byte rest (name_by (long_name (byte ∷ rest)) _ _ _ _ _ refl refl refl refl refl) _ refl
+long_word Batch byte rest = batch_long byte rest (name_by (long_name (byte ∷ rest)) _ _ _ _ _ _ refl refl refl refl refl refl) _ refl
 long_word Check byte rest = plain_long Check tt byte rest _ refl _ refl
 long_word Replay byte rest = plain_long Replay tt byte rest _ refl _ refl
 

@@ -11,7 +11,7 @@ use Rattle.clap.specs.declared.parser.matches.ArgMatches.TheViews.{out-ArgMatche
 use Rattle.clap.specs.Walk.{Row}
 use Rattle.prt_addr.specs.Word.{Word}
 use Rattle.prt_words.specs.CommandLine.{command_line}
-use Rattle.prt_words.specs.Tasks.{asks_question, IsConflict, IsModeOf, IsQuestionOf, IsTaskOf, invocation_of, subcommand_name, flag_text, text_of_flag}
+use Rattle.prt_words.specs.Tasks.{asks_question, IsConflict, IsModeOf, IsQuestionOf, IsAskedFor, IsTaskOf, named_database, named_server, subcommand_name, flag_text, text_of_flag}
 use Rattle.std.specs.List.{list_all}
 use Rattle.clap.specs.Kinds.{HasKind, IsAmong, Kinds}
 use Rattle.clap.specs.Words.{Text, kind_of}
@@ -19,14 +19,15 @@ use Rattle.clap.specs.declared.error.Error.{Error}
 use Rattle.clap.specs.declared.error.kind.ErrorKind.{ErrorKind}
 use Rattle.clap.specs.declared.error.kind.ErrorKind.TheVariants.{DisplayHelp, DisplayVersion, InvalidSubcommand}
 use Rattle.prt_words.specs.Faults.{FaultOf, IsHelpOrBad, IsStatusOf, IsWordsFault, words_status}
-use Rattle.prt_words.specs.Invocation.{Invocation, anywhere, ask, asked_by, batch, check, replay, serve, has_help, help, help_on, nothing_given, version, invocation, is_help, is_question, is_version, usage_error, file_of}
+use Rattle.prt_words.specs.Invocation.{Invocation, anywhere, ask, asked_by, batch, check, replay, serve, submit, Submission, has_help, help, help_on, nothing_given, version, invocation, is_help, is_question, is_version, usage_error, file_of}
 use Rattle.prt_words.specs.Invocation as subcommand
 use Rattle.prt_words.specs.Read.{IsFoundIn, IsReadFrom}
 use Rattle.prt_words.specs.declared.task.Mode.{Mode}
+use Rattle.prt_words.specs.declared.task.Mode.TheVariants.{InTurn, Together}
 use Rattle.prt_words.specs.declared.fault.Fault.{Fault}
 use Rattle.prt_words.specs.declared.fault.Fault.TheVariants.{Listener, Opening, Words}
 use Rattle.prt_words.specs.declared.task.Task.{Task}
-use Rattle.prt_words.specs.declared.task.Task.TheVariants.{Ask, Batch, Check, Replay, Serve}
+use Rattle.prt_words.specs.declared.task.Task.TheVariants.{Ask, Batch, Check, Replay, Serve, Submit}
 use Rattle.prt_words.proofs.CommandWords.{subcommand_reads}
 use Rattle.prt_words.proofs.HelpWords.{AreBad}
 use Rattle.prt_words.proofs.ParsedWords.{named_is, question_found, serve_named, subcommand_found, words_agree}
@@ -57,6 +58,22 @@ flag_is found false flag is given left_out = sym (left_out is)
 script_is : {mode mode0 : Mode} {verbose verbose0 : Bool} {database database0 file file0 : Option Word} → mode ≡ mode0 → verbose ≡ verbose0 → database ≡ database0 → file ≡ file0
     → batch (record { mode = mode; verbose = verbose; database = database; file = file }) ≡ batch (record { mode = mode0; verbose = verbose0; database = database0; file = file0 })
 script_is a b c d = rw (a, b, c, d) refl
+
+submission_is : {verbose verbose0 : Bool} {server server0 : Word} {file file0 : Option Word} → verbose ≡ verbose0 → server ≡ server0 → file ≡ file0
+    → submit (record { verbose = verbose; server = server; file = file }) ≡ submit (record { verbose = verbose0; server = server0; file = file0 })
+submission_is a b c = rw (a, b, c) refl
+
+-- a word that is named, and none
+some_word : (a b : Word) → Some a ≡ Some b → b ≡ a
+some_word a b same = ap (λ word. unwrap_or word a) (sym same)
+
+no_word : (word : Option Word) (named : Word) → word ≡ Some named → word ≡ None → ⊥
+no_word word named some none = true≢false (ap is_some (sym some ∙ none))
+
+-- one by one is not together
+abbrev is_together : Option Mode → Bool
+is_together (Some Together) = true
+is_together _ = false
 
 abbrev begins_with : ℕ → Option Text → Bool
 begins_with byte name = unwrap_or (slice_get (unwrap_or name []) 0) 0 == byte
@@ -131,6 +148,7 @@ asked_own words own is = is ∙ ap ask (subst (λ asked. HasOwn asked words) is 
 -- a parse without an error found `serve`, a question or another task
 serve_is : (asked : Invocation) (kinds : Kinds) (found : Option (Text × List Row)) → Agrees asked kinds found → kinds ≡ [] → subcommand_name found ≡ Some (codes "serve") → (own : List Word) × (asked ≡ serve own)
 serve_is (batch script) kinds found agrees none is = absurd (batch_no_serve (sym agrees.1 ∙ is))
+serve_is (submit script) kinds found agrees none is = absurd (batch_no_serve (sym agrees.1 ∙ is))
 serve_is (check file) kinds found agrees none is = absurd (check_no_serve (sym agrees.1 ∙ is))
 serve_is (replay file) kinds found agrees none is = absurd (replay_no_serve (sym agrees.1 ∙ is))
 serve_is (serve own) kinds found agrees none is = (own, refl)
@@ -143,6 +161,7 @@ serve_is usage_error kinds found (inr conflict) none is = absurd (batch_no_serve
 
 ask_is : (asked : Invocation) (kinds : Kinds) (found : Option (Text × List Row)) → Agrees asked kinds found → kinds ≡ [] → asks_question (subcommand_name found) ≡ true → (own : List Word) × (asked ≡ ask own)
 ask_is (batch script) kinds found agrees none is = absurd (no_question (subcommand_name found) (codes "batch") refl agrees.1 is)
+ask_is (submit script) kinds found agrees none is = absurd (no_question (subcommand_name found) (codes "batch") refl agrees.1 is)
 ask_is (check file) kinds found agrees none is = absurd (no_question (subcommand_name found) (codes "check") refl agrees.1 is)
 ask_is (replay file) kinds found agrees none is = absurd (no_question (subcommand_name found) (codes "replay") refl agrees.1 is)
 ask_is (serve own) kinds found agrees none is = absurd (no_question (subcommand_name found) (codes "serve") refl agrees.0 is)
@@ -154,7 +173,7 @@ ask_is usage_error kinds found (inl mistake) none is = absurd (subst IsMistake n
 ask_is usage_error kinds found (inr conflict) none is = absurd (no_question (subcommand_name found) (codes "batch") refl conflict.1 is)
 
 task_is : (words : List Word) (asked : Invocation) (kinds : Kinds) (found : Option (Text × List Row)) (task : Task) → Agrees asked kinds found → kinds ≡ [] → (subcommand_name found ≡ Some (codes "serve") → ⊥) → asks_question (subcommand_name found) ≡ false → IsTaskOf found task
-    → asked ≡ invocation_of words task
+    → IsAskedFor words asked task
 task_is words asked kinds found (Serve serving) agrees none other no_ask is = absurd is
 task_is words asked kinds found (Ask asking) agrees none other no_ask is = absurd is
 task_is words (batch script) kinds found (Batch task) agrees none other no_ask is =
@@ -162,10 +181,18 @@ task_is words (batch script) kinds found (Batch task) agrees none other no_ask i
     (sym (is.3 ∙ agrees.3)) (sym (is.2 ∙ agrees.2))
 task_is words (batch script) kinds found (Check file) agrees none other no_ask is = absurd (no_check (sym agrees.1 ∙ is.0))
 task_is words (batch script) kinds found (Replay file) agrees none other no_ask is = absurd (no_replay (sym agrees.1 ∙ is.0))
+task_is words (batch script) kinds found (Submit task) agrees none other no_ask is = absurd (no_word (named_server found) is.7.0 is.7.1 agrees.6)
+task_is words (submit script) kinds found (Batch task) agrees none other no_ask is = absurd (no_word (named_server found) script.server agrees.6 is.7)
+task_is words (submit script) kinds found (Submit task) agrees none other no_ask is =
+    (is.7.0, submission_is (flag_is task.is_verbose script.verbose (flag_text (codes "verbose") found) agrees.5 is.5 is.6) (some_word is.7.0 script.server (sym is.7.1 ∙ agrees.6)) (sym (is.2 ∙ agrees.2)), is.7.2)
+task_is words (submit script) kinds found (Check file) agrees none other no_ask is = absurd (no_check (sym agrees.1 ∙ is.0))
+task_is words (submit script) kinds found (Replay file) agrees none other no_ask is = absurd (no_replay (sym agrees.1 ∙ is.0))
 task_is words (check file) kinds found (Batch task) agrees none other no_ask is = absurd (is.0 agrees.1)
+task_is words (check file) kinds found (Submit task) agrees none other no_ask is = absurd (is.0 agrees.1)
 task_is words (check file) kinds found (Check path) agrees none other no_ask is = ap check (sym (is.1 ∙ agrees.2))
 task_is words (check file) kinds found (Replay path) agrees none other no_ask is = absurd (check_no_replay (sym agrees.1 ∙ is.0))
 task_is words (replay file) kinds found (Batch task) agrees none other no_ask is = absurd (is.1 agrees.1)
+task_is words (replay file) kinds found (Submit task) agrees none other no_ask is = absurd (is.1 agrees.1)
 task_is words (replay file) kinds found (Check path) agrees none other no_ask is = absurd (check_no_replay (sym is.0 ∙ agrees.1))
 task_is words (replay file) kinds found (Replay path) agrees none other no_ask is = ap replay (sym (is.1 ∙ agrees.2))
 task_is words (serve own) kinds found task agrees none other no_ask is = absurd (other agrees.0)
@@ -174,14 +201,25 @@ task_is words help kinds found task agrees none other no_ask is = absurd (not_em
 task_is words version kinds found task agrees none other no_ask is = absurd (not_empty _ _ (sym agrees ∙ none))
 task_is words help_on kinds found task agrees none other no_ask is = absurd (not_empty _ _ (sym agrees ∙ none))
 task_is words usage_error kinds found task (inl mistake) none other no_ask is = absurd (subst IsMistake none mistake)
-task_is words usage_error kinds found (Batch task) (inr conflict) none other no_ask is = absurd (no_mode task.mode (mode_is None (Some task.mode) found conflict.2 is.4))
+task_is words usage_error kinds found (Batch task) (inr (_, _, inl mode)) none other no_ask is = absurd (no_mode task.mode (mode_is None (Some task.mode) found mode is.4))
+task_is words usage_error kinds found (Batch task) (inr (_, _, inr (inl (server, in_turn)))) none other no_ask is = absurd (no_word (named_server found) server.0 server.1 is.7)
+task_is words usage_error kinds found (Batch task) (inr (_, _, inr (inr (server, path)))) none other no_ask is = absurd (no_word (named_server found) server.0 server.1 is.7)
+task_is words usage_error kinds found (Submit task) (inr (_, _, inl mode)) none other no_ask is = absurd (no_mode Together (mode_is None (Some Together) found mode is.4))
+task_is words usage_error kinds found (Submit task) (inr (_, _, inr (inl (server, in_turn)))) none other no_ask is =
+    absurd (true≢false (ap is_together (mode_is (Some (InTurn in_turn.0)) (Some Together) found in_turn.1 is.4)))
+task_is words usage_error kinds found (Submit task) (inr (_, _, inr (inr (server, path)))) none other no_ask is = absurd (no_word (named_database found) path.0 path.1 is.3)
 task_is words usage_error kinds found (Check path) (inr conflict) none other no_ask is = absurd (no_check (sym conflict.1 ∙ is.0))
 task_is words usage_error kinds found (Replay path) (inr conflict) none other no_ask is = absurd (no_replay (sym conflict.1 ∙ is.0))
 
--- a script that can be executed in no way
+-- a script that can be executed in no way, or not by a server at this place
+abbrev IsRefused : Invocation → Type 0
+IsRefused asked = (asked ≡ usage_error) ⊎ ((script : Submission) × (asked ≡ submit script))
+
 conflict_is : (asked : Invocation) (kinds : Kinds) (found : Option (Text × List Row)) → Agrees asked kinds found → kinds ≡ [] → (subcommand_name found ≡ Some (codes "serve") → ⊥) → asks_question (subcommand_name found) ≡ false → IsConflict found
-    → asked ≡ usage_error
-conflict_is (batch script) kinds found agrees none other no_ask is = absurd (no_mode script.mode (sym (mode_is (Some script.mode) None found agrees.4 is.2)))
+    → IsRefused asked
+conflict_is (batch script) kinds found agrees none other no_ask (_, _, inl mode) = absurd (no_mode script.mode (sym (mode_is (Some script.mode) None found agrees.4 mode)))
+conflict_is (batch script) kinds found agrees none other no_ask (_, _, inr server) = absurd (no_word (named_server found) server.0 server.1 agrees.6)
+conflict_is (submit script) kinds found agrees none other no_ask is = inr (script, refl)
 conflict_is (check file) kinds found agrees none other no_ask is = absurd (is.0 agrees.1)
 conflict_is (replay file) kinds found agrees none other no_ask is = absurd (is.1 agrees.1)
 conflict_is (serve own) kinds found agrees none other no_ask is = absurd (other agrees.0)
@@ -189,7 +227,7 @@ conflict_is (ask own) kinds found agrees none other no_ask is = absurd (true≢f
 conflict_is help kinds found agrees none other no_ask is = absurd (not_empty _ _ (sym agrees ∙ none))
 conflict_is version kinds found agrees none other no_ask is = absurd (not_empty _ _ (sym agrees ∙ none))
 conflict_is help_on kinds found agrees none other no_ask is = absurd (not_empty _ _ (sym agrees ∙ none))
-conflict_is usage_error kinds found agrees none other no_ask is = refl
+conflict_is usage_error kinds found agrees none other no_ask is = inl refl
 
 mistake_status : (k : ErrorKind) → is_mistake k ≡ true → words_status k ≡ 2
 mistake_status DisplayHelp bad = absurd (true≢false (sym bad))
@@ -225,6 +263,7 @@ help_status own kinds k bad among = go (has_help own) refl
 
 status_of_kind : (asked : Invocation) (kinds : Kinds) (found : Option (Text × List Row)) (k : ErrorKind) → Agrees asked kinds found → IsAmong k kinds → IsStatusOf asked (words_status k)
 status_of_kind (batch script) kinds found k agrees among = subst (IsAmong k) agrees.0 among
+status_of_kind (submit script) kinds found k agrees among = absurd (subst (IsAmong k) agrees.0 among)
 status_of_kind (check file) kinds found k agrees among = subst (IsAmong k) agrees.0 among
 status_of_kind (replay file) kinds found k agrees among = subst (IsAmong k) agrees.0 among
 status_of_kind (serve own) kinds found k agrees among = help_status own kinds k agrees.1 among
@@ -345,6 +384,7 @@ question_is words m name found none asks named =
 -- another task is no question
 pub no_question_of : (words : List Text) (found : Option (Text × List Row)) (task : Task) → IsTaskOf found task → IsQuestionOf words task
 no_question_of words found (Batch script) is = tt
+no_question_of words found (Submit script) is = tt
 no_question_of words found (Check file) is = tt
 no_question_of words found (Replay file) is = tt
 no_question_of words found (Serve serving) is = tt
@@ -352,20 +392,21 @@ no_question_of words found (Ask asked) is = absurd is
 
 pub no_reading : (words : List Text) (found : Option (Text × List Row)) (task : Task) → IsTaskOf found task → IsReadFrom words task
 no_reading words found (Batch script) is = tt
+no_reading words found (Submit script) is = tt
 no_reading words found (Check file) is = tt
 no_reading words found (Replay file) is = tt
 no_reading words found (Serve serving) is = absurd is
 no_reading words found (Ask asked) is = absurd is
 
 pub other_is : (words : List Text) (m : ArgMatches) (task : Task) → subcommand_rows_of m ≡ subcommand_of command_line words → fault_of command_line words ≡ []
-    → (subcommand_name_of m ≡ Some (codes "serve") → ⊥) → asks_question (subcommand_name_of m) ≡ false → IsTaskOf (subcommand_rows_of m) task → invocation (drop 1 words) ≡ invocation_of (drop 1 words) task
+    → (subcommand_name_of m ≡ Some (codes "serve") → ⊥) → asks_question (subcommand_name_of m) ≡ false → IsTaskOf (subcommand_rows_of m) task → IsAskedFor (drop 1 words) (invocation (drop 1 words)) task
 other_is words m task found none other no_ask is =
     task_is (drop 1 words) (invocation (drop 1 words)) (fault_of command_line words) (subcommand_of command_line words) task (words_agree words) none
     (λ named. other (name_of_found (out-ArgMatches m).subcommand ∙ ap subcommand_name found ∙ named))
     (ap asks_question (sym (ap subcommand_name found) ∙ sym (name_of_found (out-ArgMatches m).subcommand)) ∙ no_ask) (subst (λ f. IsTaskOf f task) found is)
 
 pub conflicting_is : (words : List Text) (m : ArgMatches) → subcommand_rows_of m ≡ subcommand_of command_line words → fault_of command_line words ≡ []
-    → (subcommand_name_of m ≡ Some (codes "serve") → ⊥) → asks_question (subcommand_name_of m) ≡ false → IsConflict (subcommand_rows_of m) → invocation (drop 1 words) ≡ usage_error
+    → (subcommand_name_of m ≡ Some (codes "serve") → ⊥) → asks_question (subcommand_name_of m) ≡ false → IsConflict (subcommand_rows_of m) → IsRefused (invocation (drop 1 words))
 conflicting_is words m found none other no_ask is =
     conflict_is (invocation (drop 1 words)) (fault_of command_line words) (subcommand_of command_line words) (words_agree words) none
     (λ named. other (name_of_found (out-ArgMatches m).subcommand ∙ ap subcommand_name found ∙ named))
@@ -377,6 +418,12 @@ bad_words own (Words error) is = (inr is, inr is)
 bad_words own (Opening reason) is = (is, is)
 bad_words own Listener is = absurd is
 
-pub conflict_fault : {T : Type 0} (asked : Invocation) (result : Result T Fault) → IfErr result (λ fault. asked ≡ usage_error) → IfErr result (IsWordsFault usage_error) → IfErr result (IsWordsFault asked)
+refused_words : (script : Submission) (fault : Fault) → IsWordsFault usage_error fault → IsWordsFault (submit script) fault
+refused_words script (Words error) is = is
+refused_words script (Opening reason) is = is
+refused_words script Listener is = absurd is
+
+pub conflict_fault : {T : Type 0} (asked : Invocation) (result : Result T Fault) → IfErr result (λ fault. IsRefused asked) → IfErr result (IsWordsFault usage_error) → IfErr result (IsWordsFault asked)
 conflict_fault asked (Ok task) same is = tt
-conflict_fault asked (Err fault) same is = subst (λ a. IsWordsFault a fault) (sym same) is
+conflict_fault asked (Err fault) (inl same) is = subst (λ a. IsWordsFault a fault) (sym same) is
+conflict_fault asked (Err fault) (inr same) is = subst (λ a. IsWordsFault a fault) (sym same.1) (refused_words same.0 fault is)

@@ -5,6 +5,7 @@ use Rattle.clap.specs.declared.parser.matches.ArgMatches.{ArgMatches}
 use Rattle.prt_addr.specs.Word.{Word}
 use Rattle.prt_refusals.specs.declared.on_refusal.OnRefusal.{OnRefusal}
 use Rattle.prt_refusals.specs.declared.on_refusal.OnRefusal.TheVariants.{GoOn, Stop}
+use Rattle.prt_words.specs.Places.{IsPlace}
 use Rattle.prt_words.specs.Tasks.{text_of_flag}
 use Rattle.prt_words.specs.Invocation.{file_of}
 use Rattle.prt_words.specs.Reaching.{values_of}
@@ -17,16 +18,10 @@ use Rattle.prt_words.specs.declared.asking.Shown.TheVariants as shown
 use Rattle.prt_words.specs.declared.asking.Source.{Source}
 use Rattle.prt_words.specs.declared.asking.Source.TheVariants.{Database, Script, Server}
 use Rattle.prt_words.specs.declared.server_place.ServerPlace.{ServerPlace}
-use Rattle.prt_words.specs.declared.server_place.ServerPlace.TheVariants.{Address, Folder}
 
 -- the value that the words have for an option, or for an operand
 abbrev pub value_of : ArgMatches → Word → Option Word
 value_of matches name = first_value (found_of matches) name
-
--- the folder is the word; of an address nothing is said
-abbrev pub IsPlace : Word → ServerPlace → Type 0
-IsPlace word (Folder path) = path.now ≡ word
-IsPlace word (Address address) = Unit {0}
 
 -- the server is at the place that `--server` names
 abbrev pub IsServerBy : ArgMatches → ServerPlace → Type 0

@@ -9,21 +9,6 @@ use Rattle.clap.specs.declared.builder.command.Command.TheViews.{out-Command}
 abbrev pub flag_rule : Text → Rule
 flag_rule name = record (new_rule name) { long = Some name; action = Some SetTrue }
 
-abbrev pub database_rule : Rule
-database_rule = record (new_rule (codes "db")) { long = Some (codes "db"); value_names = 1 }
-
-abbrev pub file_rule : Rule
-file_rule = record (new_rule (codes "file")) { value_names = 1 }
-
-abbrev pub batch_line : App
-batch_line = with_rule (with_rule (with_rule (with_rule (with_rule (new_app (codes "batch")) (flag_rule (codes "force"))) (flag_rule (codes "atomic"))) database_rule) (flag_rule (codes "verbose"))) file_rule
-
-abbrev pub check_line : App
-check_line = with_rule (new_app (codes "check")) file_rule
-
-abbrev pub replay_line : App
-replay_line = with_rule (new_app (codes "replay")) file_rule
-
 -- an option with a value, one that has to be given, and one that has this value if it isn't given
 abbrev pub option_rule : Text → Rule
 option_rule name = record (new_rule name) { long = Some name; value_names = 1 }
@@ -33,6 +18,21 @@ needed_rule name = record (option_rule name) { required = true }
 
 abbrev pub number_rule : Text → Text → Rule
 number_rule name missing = record (option_rule name) { defaults = missing ∷ [] }
+
+abbrev pub database_rule : Rule
+database_rule = record (new_rule (codes "db")) { long = Some (codes "db"); value_names = 1 }
+
+abbrev pub file_rule : Rule
+file_rule = record (new_rule (codes "file")) { value_names = 1 }
+
+abbrev pub batch_line : App
+batch_line = with_rule (with_rule (with_rule (with_rule (with_rule (with_rule (new_app (codes "batch")) (flag_rule (codes "force"))) (flag_rule (codes "atomic"))) database_rule) (option_rule (codes "server"))) (flag_rule (codes "verbose"))) file_rule
+
+abbrev pub check_line : App
+check_line = with_rule (new_app (codes "check")) file_rule
+
+abbrev pub replay_line : App
+replay_line = with_rule (new_app (codes "replay")) file_rule
 
 -- with the places at which a server listens
 abbrev pub with_places : App → App

@@ -1,4 +1,4 @@
--- What the words after the program's name ask for: `batch [--force | --atomic] [--db PATH] [--verbose] [FILE]`, `check [FILE]`, `replay [FILE]`, `serve` and `dump` with their options, the version, or help.
+-- What the words after the program's name ask for: `batch [--force | --atomic] [--db PATH] [--verbose] [FILE]`, `batch --atomic --server WHERE [--verbose] [FILE]`, `check [FILE]`, `replay [FILE]`, `serve` and `dump` with their options, the version, or help.
 -- Options and operands are distinguished as POSIX.1 does (Base Definitions, section 12.2, guidelines 4, 10 and 13), but options may follow operands, and `--db=PATH` is `--db PATH`.
 use Rattle.std.specs.Prelude.{ℕ, ◌==◌, ◌||◌, Bool, true, false, List, [], ◌∷◌, Option, Some, None, is_some, if◌then◌else◌, map, drop, codes, option_and_then, slice_get, chars, bytes_eq, String, string_bytes}
 use Rattle.std.specs.List.{before_first, after_first, list_any}
@@ -17,9 +17,19 @@ pub record Script : Type 0 where
   -- the path of its file; none for the input
   pub file : Option Word
 
+-- A script whose commands a server is to make together, and whether it is reported to a person.
+pub record Submission : Type 0 where
+  pub verbose : Bool
+  -- where the server is
+  pub server : Word
+  -- the path of its file; none for the input
+  pub file : Option Word
+
 pub data Invocation : Type 0 where
   -- a session over a script
   batch : Script → Invocation
+  -- a script that goes to a server
+  submit : Submission → Invocation
   -- a check of the file of this path, or of the input
   check : Option Word → Invocation
   -- a replay of the file of this path, or of the input
@@ -82,6 +92,8 @@ pub data Argument : Type 0 where
   Verbose : Argument
   -- `--db PATH`
   Database : Word → Argument
+  -- `--server WHERE`
+  Server : Word → Argument
   -- FILE
   File : Word → Argument
 
@@ -91,10 +103,11 @@ pub record Given : Type 0 where
   pub atomic : Bool
   pub verbose : Bool
   pub database : Option Word
+  pub server : Option Word
   pub operand : Option Word
 
 abbrev pub nothing_given : Given
-nothing_given = record { forced = false; atomic = false; verbose = false; database = None; operand = None }
+nothing_given = record { forced = false; atomic = false; verbose = false; database = None; server = None; operand = None }
 
 -- such an argument was given
 abbrev pub has_given : Given → Argument → Bool
@@ -102,6 +115,7 @@ has_given given Force = given.forced
 has_given given Atomic = given.atomic
 has_given given Verbose = given.verbose
 has_given given (Database path) = is_some given.database
+has_given given (Server place) = is_some given.server
 has_given given (File word) = is_some given.operand
 
 abbrev pub with_given : Given → Argument → Given
@@ -109,6 +123,7 @@ with_given given Force = record given { forced = true }
 with_given given Atomic = record given { atomic = true }
 with_given given Verbose = record given { verbose = true }
 with_given given (Database path) = record given { database = Some path }
+with_given given (Server place) = record given { server = Some place }
 with_given given (File word) = record given { operand = Some word }
 
 -- how the lines are executed, by whether `--force` and `--atomic` are given; no way for both
@@ -122,20 +137,44 @@ abbrev pub asked_in : Option Mode → Given → Invocation
 asked_in None given = usage_error
 asked_in (Some mode) given = batch (record { mode = mode; verbose = given.verbose; database = given.database; file = option_and_then file_of given.operand })
 
+-- with a server: it makes commands together, and there is no other database
+abbrev pub submitted : Word → Option Mode → Option Word → Given → Invocation
+submitted server None database given = usage_error
+submitted server (Some (InTurn on_refusal)) database given = usage_error
+submitted server (Some Together) (Some path) given = usage_error
+submitted server (Some Together) None given = submit (record { verbose = given.verbose; server = server; file = option_and_then file_of given.operand })
+
+abbrev pub asked_of : Option Word → Option Mode → Option Word → Given → Invocation
+asked_of None mode database given = asked_in mode given
+asked_of (Some server) mode database given = submitted server mode database given
+
 -- what the subcommand asks for with this
 abbrev pub asked : Subcommand → Given → Invocation
-asked Batch given = asked_in (mode_of given.forced given.atomic) given
+asked Batch given = asked_of given.server (mode_of given.forced given.atomic) given.database given
 asked Check given = check (option_and_then file_of given.operand)
 asked Replay given = replay (option_and_then file_of given.operand)
 
 -- ---- what a word of a subcommand is
 
+-- an option whose value may be the next word
+pub data Valued : Type 0 where
+  DatabaseOption : Valued
+  ServerOption : Valued
+
+abbrev pub option_word : Valued → Word
+option_word DatabaseOption = codes "--db"
+option_word ServerOption = codes "--server"
+
+abbrev pub argument_of : Valued → Word → Argument
+argument_of DatabaseOption word = Database word
+argument_of ServerOption word = Server word
+
 pub data Part : Type 0 where
   delimiter : Part
   asks_help : Part
   argument : Argument → Part
-  -- `--db`, whose path is the next word
-  awaits_path : Part
+  -- the value of this option is the next word
+  awaits : Valued → Part
   -- an option that there is not
   unknown : Part
 
@@ -143,7 +182,7 @@ pub data Part : Type 0 where
 abbrev pub is_equals : ℕ → Bool
 is_equals byte = byte == 61
 
--- an option other than help; `--db=` and what follows pass the path at once
+-- an option other than help; `--db=` and `--server=` pass the value that follows at once
 abbrev pub option_part : Subcommand → Word → Part
 option_part Check word = unknown
 option_part Replay word = unknown
@@ -151,9 +190,11 @@ option_part Batch word =
     if bytes_eq word (codes "--force") then argument Force
     else (if bytes_eq word (codes "--atomic") then argument Atomic
     else (if bytes_eq word (codes "--verbose") then argument Verbose
-    else (if bytes_eq word (codes "--db") then awaits_path
-    else (if bytes_eq (before_first is_equals word) (codes "--db") then argument (Database (after_first is_equals word))
-    else unknown))))
+    else (if bytes_eq word (option_word DatabaseOption) then awaits DatabaseOption
+    else (if bytes_eq word (option_word ServerOption) then awaits ServerOption
+    else (if bytes_eq (before_first is_equals word) (option_word DatabaseOption) then argument (Database (after_first is_equals word))
+    else (if bytes_eq (before_first is_equals word) (option_word ServerOption) then argument (Server (after_first is_equals word))
+    else unknown))))))
 
 abbrev pub part_of : Subcommand → Word → Part
 part_of subcommand word =
@@ -165,15 +206,15 @@ part_of subcommand word =
 -- Where a word is.
 pub data ArgumentPlace : Type 0 where
   anywhere : ArgumentPlace
-  -- after `--db`
-  at_path : ArgumentPlace
+  -- after such an option
+  at_value : Valued → ArgumentPlace
   -- after `--`
   at_operands : ArgumentPlace
 
--- a path that begins with a hyphen is given by `--db=PATH`, except for `-` alone, which is a file of that name
+-- a value that begins with a hyphen is given by `--db=PATH`, except for `-` alone, which is a file of that name
 abbrev pub part_at : ArgumentPlace → Subcommand → Word → Part
 part_at anywhere subcommand word = part_of subcommand word
-part_at at_path subcommand word = if is_option word then unknown else argument (Database word)
+part_at (at_value option) subcommand word = if is_option word then unknown else argument (argument_of option word)
 part_at at_operands subcommand word = argument (File word)
 
 -- ---- the words of a subcommand, from left to right
@@ -187,11 +228,11 @@ abbrev pub asked_with : ArgumentPlace → Given → Part → (ArgumentPlace → 
 asked_with place given delimiter more = more at_operands given
 asked_with place given asks_help more = help
 asked_with place given (argument a) more = if has_given given a then usage_error else more (place_after place) (with_given given a)
-asked_with place given awaits_path more = more at_path given
+asked_with place given (awaits option) more = more (at_value option) given
 asked_with place given unknown more = usage_error
 
 abbrev pub asked_at_end : Subcommand → ArgumentPlace → Given → Invocation
-asked_at_end subcommand at_path given = usage_error
+asked_at_end subcommand (at_value option) given = usage_error
 asked_at_end subcommand _ given = asked subcommand given
 
 -- help if an option asks for it and the words before it are right

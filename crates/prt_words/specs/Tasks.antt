@@ -1,16 +1,18 @@
 -- What a parse finds of the words of a subcommand, and which task that is.
-use Rattle.std.specs.Prelude.{◌≡◌, ◌≢◌, ◌≤◌, Bool, true, false, List, Option, Some, None, codes, option_and_then, option_map, slice_get}
+use Rattle.std.specs.Prelude.{◌≡◌, ◌≢◌, ◌⊎◌, ◌≤◌, Bool, true, false, List, Option, Some, None, codes, option_and_then, option_map, slice_get}
 use Rattle.std.specs.Option.{option_map_or}
 use Rattle.clap.specs.Words.{Row, Text, first_of, one_of}
 use Rattle.prt_words.specs.Asking.{name_of_asked}
-use Rattle.prt_words.specs.Invocation.{Invocation, ask, batch, check, file_of, is_question, mode_of, replay, serve}
+use Rattle.prt_words.specs.Invocation.{Invocation, ask, batch, check, file_of, is_question, mode_of, replay, serve, submit}
+use Rattle.prt_words.specs.Places.{IsPlace}
 use Rattle.prt_words.specs.Reaching.{IsAsked}
 use Rattle.prt_words.specs.declared.serving.Serving.{Serving}
 use Rattle.prt_words.specs.declared.task.Task.{Task}
-use Rattle.prt_words.specs.declared.task.Task.TheVariants.{Ask, Batch, Check, Replay, Serve}
+use Rattle.prt_words.specs.declared.task.Task.TheVariants.{Ask, Batch, Check, Replay, Serve, Submit}
 use Rattle.prt_words.specs.declared.task.Mode.{Mode}
+use Rattle.prt_words.specs.declared.task.Mode.TheVariants.{Together}
 
--- the name of the subcommand, the values of FILE and of `--db`, and the text of a flag
+-- the name of the subcommand, the values of FILE, `--db` and `--server`, and the text of a flag
 abbrev pub subcommand_name : Option (Text × List Row) → Option Text
 subcommand_name = option_map (λ p. p.0)
 
@@ -19,6 +21,9 @@ named_file = option_and_then (λ p. first_of (codes "file") p.1)
 
 abbrev pub named_database : Option (Text × List Row) → Option Text
 named_database = option_and_then (λ p. first_of (codes "db") p.1)
+
+abbrev pub named_server : Option (Text × List Row) → Option Text
+named_server = option_and_then (λ p. first_of (codes "server") p.1)
 
 abbrev pub flag_text : Text → Option (Text × List Row) → Option Text
 flag_text name = option_and_then (λ p. one_of name p.1)
@@ -35,9 +40,12 @@ IsModeBy force atomic mode = (forced together : Bool) → force ≡ Some (text_o
 abbrev pub IsModeOf : Option (Text × List Row) → Option Mode → Type 0
 IsModeOf found = IsModeBy (flag_text (codes "force") found) (flag_text (codes "atomic") found)
 
--- the parse found a script whose lines can't be executed as its words ask
+-- the parse found a script whose lines can't be executed as its words ask, or not by the server that they name
 abbrev pub IsConflict : Option (Text × List Row) → Type 0
-IsConflict found = (subcommand_name found ≢ Some (codes "check")) × (subcommand_name found ≢ Some (codes "replay")) × IsModeOf found None
+IsConflict found =
+    (subcommand_name found ≢ Some (codes "check"))
+    × (subcommand_name found ≢ Some (codes "replay"))
+    × (IsModeOf found None ⊎ ((server : Text) × (named_server found ≡ Some server)))
 
 -- the subcommand of this name asks a question
 abbrev pub asks_question : Option Text → Bool
@@ -53,6 +61,16 @@ IsTaskOf found (Batch script) =
     × IsModeOf found (Some script.mode)
     × (flag_text (codes "verbose") found ≡ Some (codes "true") → script.is_verbose ≡ true)
     × (flag_text (codes "verbose") found ≡ Some (codes "false") → script.is_verbose ≡ false)
+    × (named_server found ≡ None)
+IsTaskOf found (Submit script) =
+    (subcommand_name found ≢ Some (codes "check"))
+    × (subcommand_name found ≢ Some (codes "replay"))
+    × (option_map (λ path. path.now) script.file ≡ option_and_then file_of (named_file found))
+    × (named_database found ≡ None)
+    × IsModeOf found (Some Together)
+    × (flag_text (codes "verbose") found ≡ Some (codes "true") → script.is_verbose ≡ true)
+    × (flag_text (codes "verbose") found ≡ Some (codes "false") → script.is_verbose ≡ false)
+    × ((server : Text) × (named_server found ≡ Some server) × IsPlace server script.server)
 IsTaskOf found (Check file) =
     (subcommand_name found ≡ Some (codes "check"))
     × (option_map (λ path. path.now) file ≡ option_and_then file_of (named_file found))
@@ -62,18 +80,22 @@ IsTaskOf found (Replay file) =
 IsTaskOf found (Serve serving) = ⊥
 IsTaskOf found (Ask asked) = ⊥
 
--- what a task of these words was asked for by
-abbrev pub invocation_of : List Text → Task → Invocation
-invocation_of words (Batch script) = batch (record {
+-- the task is what the words ask for
+abbrev pub IsAskedFor : List Text → Invocation → Task → Type 0
+IsAskedFor words asked (Batch script) = asked ≡ batch (record {
   mode = script.mode;
   verbose = script.is_verbose;
   database = option_map (λ path. path.now) script.database;
   file = option_map (λ path. path.now) script.file;
 })
-invocation_of words (Check file) = check (option_map (λ path. path.now) file)
-invocation_of words (Replay file) = replay (option_map (λ path. path.now) file)
-invocation_of words (Serve serving) = serve words
-invocation_of words (Ask asked) = ask words
+IsAskedFor words asked (Submit script) =
+    (server : Text)
+    × (asked ≡ submit (record { verbose = script.is_verbose; server = server; file = option_map (λ path. path.now) script.file }))
+    × IsPlace server script.server
+IsAskedFor words asked (Check file) = asked ≡ check (option_map (λ path. path.now) file)
+IsAskedFor words asked (Replay file) = asked ≡ replay (option_map (λ path. path.now) file)
+IsAskedFor words asked (Serve serving) = asked ≡ serve words
+IsAskedFor words asked (Ask question) = asked ≡ ask words
 
 -- a question is that of the first word
 abbrev pub IsQuestionOf : List Text → Task → Type 0

@@ -94,6 +94,12 @@ pub(crate) fn batch_line<'a>(alloc: Global) -> Result<Command<'a>, AllocError>
         "Make all changes together or none, once all lines are read; not with --force",
     );
     let database = database_option(alloc);
+    let server = option(
+        alloc,
+        "server",
+        "WHERE",
+        "Have a server make the changes: the folder of its sockets, or the address and port of its atomic scripts; with --atomic",
+    );
     let verbose = flag(
         alloc,
         "verbose",
@@ -105,6 +111,7 @@ pub(crate) fn batch_line<'a>(alloc: Global) -> Result<Command<'a>, AllocError>
         .arg(force)?
         .arg(atomic)?
         .arg(database)?
+        .arg(server)?
         .arg(verbose)?
         .arg(file)
 }

@@ -33,9 +33,6 @@ pub const FAULT: u8 = 3;
 /// Says of a word that it is no text.
 const NOT_TEXT: &str = "invalid UTF-8 was detected in one or more arguments";
 
-/// What is wrong with a script that is to go on after a refused line and to be executed together.
-const CONFLICT: &str = "the argument '--force' cannot be used with '--atomic'";
-
 /// Why the program runs nothing.
 #[derive(Debug, Drop, Error)]
 pub enum Fault {
@@ -97,20 +94,20 @@ pub fn words_fault(alloc: Global, error: &io::Error) -> Fault
     }
 }
 
-/// Makes the error of a script that is to go on and to be executed together, in the form of those of a parse.
-fn conflict_error(alloc: Global) -> Result<clap::Error, AllocError>
+/// Makes the error of words of `batch` of which the text says what is wrong, in the form of those of a parse.
+fn batch_error(alloc: Global, text: &str) -> Result<clap::Error, AllocError>
     ensures { IfOk result (λ error. kind_of error ≡ ErrorKind.ArgumentConflict) }
 {
     batch_line(alloc)?
         .bin_name("prt batch")?
-        .error(ErrorKind::ArgumentConflict, CONFLICT)
+        .error(ErrorKind::ArgumentConflict, text)
 }
 
-/// Builds the fault that a script can't go on after a refused line and be executed together.
-pub(crate) fn conflict_fault(alloc: Global) -> Fault
+/// Builds the fault of what is wrong with the words of `batch`, in this text.
+pub(crate) fn batch_fault(alloc: Global, text: &str) -> Fault
     ensures { IsWordsFault usage_error result }
 {
-    match conflict_error(alloc) {
+    match batch_error(alloc, text) {
         Ok(error) => Fault::Words(error),
         Err(_) => Fault::Opening(Refusal::NoMemory),
     }

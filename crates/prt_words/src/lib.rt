@@ -25,5 +25,5 @@ pub use reach::{NumberSpan, Reach};
 pub use server_place::ServerPlace;
 pub use service::{Applying, Inspecting, ServerEnds, StatusForm, Target};
 pub use serving::Serving;
-pub use task::{Batch, Mode, STANDARD_INPUT, Task, read_words};
+pub use task::{Batch, Mode, STANDARD_INPUT, Submitting, Task, read_words};
 pub use version::VERSION;

@@ -1,6 +1,6 @@
 //! Where a server is.
 ghost use Rattle.std.specs.Prelude.{IfSome};
-ghost use Rattle.prt_words.specs.Analysis.{IsPlace};
+ghost use Rattle.prt_words.specs.Places.{IsPlace};
 
 use crate::serving::place_of;
 use std::fmt::{self, Display, Formatter};

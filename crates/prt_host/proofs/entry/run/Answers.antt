@@ -1,9 +1,9 @@
 use Rattle.std.proofs.Common.{◌≡◌, ap, subst}
-use Rattle.prt_host.proofs.Runs.{asks_from, exit_alone, has_answered, has_served, same_at}
-use Rattle.prt_host.specs.Runs.{answers, serves}
+use Rattle.prt_host.proofs.Runs.{asks_from, exit_alone, has_answered, has_served, same_at, submits_from}
+use Rattle.prt_host.specs.Runs.{answers, serves, submits}
 use Rattle.prt_program.specs.Faults.{database_of}
 use Rattle.prt_program.specs.Program.{LeavesInput}
-use Rattle.prt_questions.specs.Sources.{sources_of}
+use Rattle.prt_questions.specs.Sources.{path_of, sources_of}
 use Rattle.prt_words.specs.Invocation.{arguments, invocation}
 use Rattle.prt_host.proofs.entry.run.Goals as goal
 
@@ -21,6 +21,20 @@ returns-in-Serve g c =
     let words = arguments c.args.words.now in
     let ended = has_served g.S.Store g.M.Machine.opens g.M.Machine.refuses g.M.Machine.closes mid old c.serve.new.databases.machine same words c.in-Serve.serving c.serve.result said.serve.2 said.serve.1 c.serve.ensures.done c.serve.ensures.fault c.serve.ensures.why in
     serves words said.serve.0 ended
+
+pub returns-in-Submit : goal.returns-in-Submit
+returns-in-Submit g c =
+    let said = c.in-Submit.ensures in
+    let contents = g.W.Write.contents in
+    let remaining = g.R.Read.remaining in
+    let sent = c.submit_script-status in
+    let all : c.program-next.new.databases ≡ c.args.databases.now = said.unopened (ap database_of said.submit.0.1) in
+    let unread : remaining c.program-next.new.input.stream ≡ remaining c.args.input.now.stream =
+    subst (λ asked. LeavesInput asked (remaining c.args.input.now.stream) (remaining c.program-next.new.input.stream)) said.submit.0.1 said.unread in
+    submits (record { verbose = c.in-Submit.submitting.is_verbose; server = said.submit.0.0; file = path_of c.in-Submit.submitting.file }) said.submit.0.1 (same_at c.args.databases.now c.program-next.new.databases (λ d. d.machine) all)
+    (submits_from _ c.in-Submit.submitting.server said.submit.0.2 c.args.databases.now c.program-next.new.databases all (remaining c.args.input.now.stream) (remaining c.program-next.new.input.stream) unread
+    (λ databases input. sources_of g.F.ReadFiles.opens g.F.Opened.Read.remaining databases.files.now g.N.LocalNet.reaches g.N.Stream.Read.remaining databases.rt input)
+    (contents c.program-next.new.output.stream) (contents c.args.output.now.stream) (contents sent.new.output.stream) said.submit.1 sent.result sent.ensures.run sent.ensures.whole)
 
 pub returns-in-Ask : goal.returns-in-Ask
 returns-in-Ask g c =

@@ -19,5 +19,5 @@ returns-then-eq g c =
       read = opening_of (said c.in_ok-stream.stream) (reader_remaining said c.first_byte.new.reader) (reader_remaining said c.read_opening.new.reader) c.in_ok-opening.opening
           (subst (λ known. Keeps known (reader_remaining said c.first_byte.new.reader)) (fresh said reader c.in_ok-stream.stream made.inner made.empty made.capacity) c.first_byte.ensures)
           c.in_ok-opening.ensures.opening;
-      spelled = c.in_ok-into_version.ensures;
+      spelled = c.in_ok-into_version.ensures.value;
     }

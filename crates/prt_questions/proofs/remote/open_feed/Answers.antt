@@ -20,5 +20,5 @@ returns g c =
       read = opening_of (said c.in_ok-stream.stream) (reader_remaining said c.is_feed.new.reader) (reader_remaining said c.read_opening.new.reader) c.in_ok-opening.opening
           (subst (λ known. Keeps known (reader_remaining said c.is_feed.new.reader)) (fresh said reader c.in_ok-stream.stream made.inner made.empty made.capacity) c.is_feed.ensures)
           c.in_ok-opening.ensures.opening;
-      spelled = c.in_ok-version.ensures;
+      spelled = c.in_ok-version.ensures.value;
     }

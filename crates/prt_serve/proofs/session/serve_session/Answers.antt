@@ -1,6 +1,7 @@
-use Rattle.std.proofs.Common.{◌≡◌, ap, refl, subst, ◌∙◌}
+use Rattle.std.proofs.Common.{◌≡◌, ap, refl, subst, sym, ◌∙◌}
 use Rattle.prt_front.specs.Line.{Line}
 use Rattle.prt_serve.specs.Requests.{service_may, service_turn}
+use Rattle.prt_serve.specs.Serving.{Serves}
 use Rattle.prt_serve.proofs.Serving.{shows_path}
 use Rattle.prt_service.specs.Look.{Look}
 use Rattle.prt_session.proofs.Length.{session_taken}
@@ -11,9 +12,16 @@ use Rattle.prt_serve.proofs.session.serve_session.Goals as goal
 pub returns-clause-served : goal.returns-clause-served
 returns-clause-served g c =
     let known0 = c.args.looker.now.known in
-    let known = c.run_session.new.executor.known in
-    let ran = c.run_session.ensures.run known refl in
-    let same : c.rest.new.self.known ≡ known0 = ap (λ (l : Look). l.known) c.rest.ensures in
-    let run : RunIs service_turn service_may GoOn known0 known (g.R.Read.remaining c.args.reader.now) (g.R.Read.remaining c.run_session.new.reader) (g.W.Write.contents c.args.writer.now) (g.W.Write.contents c.run_session.new.writer) c.run_session.result =
-    subst (λ (l : Line). RunIs service_turn service_may GoOn l known (g.R.Read.remaining c.args.reader.now) (g.R.Read.remaining c.run_session.new.reader) (g.W.Write.contents c.args.writer.now) (g.W.Write.contents c.run_session.new.writer) c.run_session.result) (ran.1 ∙ same) ran.2 in
-    record { run = run; shows = shows_path known0 known _ run.path; ends = session_taken service_turn known0 run.input GoOn run.mishaps }
+    let known = c.run_session-end.new.executor.known in
+    let ran = c.run_session-end.ensures.run known refl in
+    let first : c.rest.new.self.known ≡ known0 = ap (λ (l : Look). l.known) c.rest.ensures in
+    let last : c.rest-2.new.self.known ≡ known = ap (λ (l : Look). l.known) c.rest-2.ensures in
+    let reader0 = g.R.Read.remaining c.args.reader.now in
+    let reader = g.R.Read.remaining c.run_session-end.new.reader in
+    let writer0 = g.W.Write.contents c.args.writer.now in
+    let writer = g.W.Write.contents c.run_session-end.new.writer in
+    let run : RunIs service_turn service_may GoOn known0 known reader0 reader writer0 writer c.run_session-end.result =
+    subst (λ (l : Line). RunIs service_turn service_may GoOn l known reader0 reader writer0 writer c.run_session-end.result) (ran.1 ∙ first) ran.2 in
+    let served : Serves known0 known reader0 reader writer0 writer c.run_session-end.result =
+    record { run = run; shows = shows_path known0 known _ run.path; ends = session_taken service_turn known0 run.input GoOn run.mishaps } in
+    subst (λ (l : Line). Serves known0 l reader0 reader writer0 writer c.run_session-end.result) (sym last) served

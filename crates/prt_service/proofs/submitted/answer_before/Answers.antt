@@ -1,4 +1,4 @@
-use Rattle.std.proofs.Common.{◌≡◌, Ok, Result, subst, sym, ◌∙◌, ap}
+use Rattle.std.proofs.Common.{Ok, Result, sym, ◌∙◌, ap}
 use Rattle.prt_front.specs.Line.{Line}
 use Rattle.prt_refusals.specs.declared.refusal.Refusal.{Refusal}
 use Rattle.prt_service.specs.Group.{answer_before}

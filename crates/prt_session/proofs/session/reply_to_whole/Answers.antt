@@ -9,4 +9,5 @@ unfolding line_turn LineMay
 returns-then-is_long-clause-turn g c = λ content counted kept after stands.
     let long : 1024 < length content = omega (arith, counted) in
     let e = reading_long content long in
-    (after, stands, (None, rw e refl, rw e refl, rw e refl))
+    let passed = c.pass.ensures.same after stands in
+    (passed.0, passed.1, (None, rw e refl, rw e refl, rw e passed.2))

@@ -1,8 +1,9 @@
-use Rattle.std.proofs.Common.{◌≡◌, ◌+◌, ◌-◌, true, refl, arith}
+use Rattle.std.proofs.Common.{◌≡◌, ◌+◌, ◌-◌, true, refl, arith, subst, sym}
 use Rattle.prt_command.specs.Lines.{limits}
 use Rattle.prt_session.proofs.Ends.{after_last, ends_cut, ends_there, goes_on, nothing_read}
 use Rattle.prt_session.proofs.Served.{moment, served_at_first, ran_to_end}
 use Rattle.prt_replies.specs.ScriptEnd.{refused_after}
+use Rattle.prt_session.specs.Run.{RunsIn}
 use Rattle.prt_session.specs.Steps.{is_nothing}
 use Rattle.prt_session.proofs.session.run_session_in.Goals as goal
 
@@ -56,8 +57,15 @@ loop-count-preserved g c = record {
 
 pub returns-clause-run : goal.returns-clause-run
 returns-clause-run g c = λ after stands.
-    let before = c.loop-count.invariant.served after stands in
+    let passed = c.pass.ensures.same after stands in
+    let before = c.loop-count.invariant.served passed.0 passed.1 in
     let start = moment before.0 (g.R.Read.remaining c.args.reader.now) (g.W.Write.contents c.args.writer.now) in
-    let now = moment after (g.R.Read.remaining c.loop-count.reader) (g.W.Write.contents c.loop-count.writer) in
+    let now = moment passed.0 (g.R.Read.remaining c.loop-count.reader) (g.W.Write.contents c.loop-count.writer) in
     let none : limits.lines - c.loop-count.count ≡ 0 = omega arith in
-    (before.0, before.1, after_last c.args.form g.E.Executor.turn g.E.Executor.may c.args.mode start now c.loop-count.end (rw none at before.2) (g.R.Read.remaining c.end_after_last.new.reader) (g.W.Write.contents c.end_after_last.new.writer) c.end_after_last.result c.end_after_last.ensures)
+    let reader = g.R.Read.remaining c.end_after_last.new.reader in
+    let writer = g.W.Write.contents c.end_after_last.new.writer in
+    let ran = after_last c.args.form g.E.Executor.turn g.E.Executor.may c.args.mode start now c.loop-count.end (rw none at before.2) reader writer c.end_after_last.result c.end_after_last.ensures in
+    (before.0, before.1, subst (λ desk. RunsIn c.args.form g.E.Executor.turn g.E.Executor.may c.args.mode before.0 desk start.reader reader start.writer writer c.end_after_last.result) (sym passed.2) ran)
+
+pub returns-clause-keeps : goal.returns-clause-keeps
+returns-clause-keeps g c = g.met.E.Executor.keeps_over_all.transitive c.args.executor.now c.loop-count.executor c.pass.new.self c.loop-count.invariant.keeps c.pass.ensures.keeps

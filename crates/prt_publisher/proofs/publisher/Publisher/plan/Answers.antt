@@ -1,7 +1,6 @@
 use Rattle.std.proofs.Common.{◌≡◌, ap, sym, subst, ◌∙◌}
 use Rattle.prt_front.specs.Line.{line_state}
 use Rattle.prt_version.specs.State.{State}
-use Rattle.prt_publisher.proofs.Checks.{checked_accepted}
 use Rattle.prt_publisher.specs.Standing.{Standing}
 use Rattle.prt_publisher.specs.Step.{AreChecked, IsStep, commands_checked, commands_of}
 use Rattle.prt_publisher.specs.declared.publisher.Step.TheVariants as step
@@ -15,4 +14,4 @@ returns-in-Err-clause-allowed g c =
     let are : AreChecked s checked = subst (IsStep s) is c.self.invariant.3 in
     let shown : line_state c.args.self.now.line ≡ s = ap (λ (v : Standing _). line_state v.line) (sym c.self.view_is) in
     let under : c.args.self.now.commands ≡ commands_checked checked = ap (λ (v : Standing _). v.commands) (sym c.self.view_is) ∙ ap commands_of is in
-    rw (shown, under) (checked_accepted s checked are)
+    rw (shown, under) are.accepted

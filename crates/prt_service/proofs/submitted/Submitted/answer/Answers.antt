@@ -1,4 +1,4 @@
-use Rattle.std.proofs.Common.{◌≡◌, ◌-◌, ◌∷◌, List, Result, ap, arith, length, subst, sym, ◌∙◌}
+use Rattle.std.proofs.Common.{◌≡◌, ◌-◌, ◌∷◌, List, Result, ap, arith, length, subst, sym}
 use Rattle.prt_command.specs.declared.request.Command.{Command}
 use Rattle.prt_service.proofs.Receipts.{first_answered, later_answered, some_later}
 use Rattle.prt_service.specs.Service.{AreAnswered, IsAnswer}

@@ -1,0 +1,336 @@
+//! Scripts whose commands a server makes together.
+ghost use Rattle.std.specs.Prelude.{◌≡◌, ◌≢◌, ◌⊎◌, ◌++◌, IfErr, IfOk, IfSome, List, OnErr, Option, [], codes, length, true, ℕ};
+ghost use Rattle.std.specs.Io.KnownBytes.{Appends};
+ghost use Rattle.prt_questions.specs.Sources.{IsAtomicReply, IsFileOf, IsRead, path_of, sources_of};
+ghost use Rattle.prt_questions.specs.Submitting.{EndsWith, IsAllMade, IsQuiet, IsReadOf, IsSent, IsSubmitted, IsVerdictOf, fault_by, refused_by, submission_text};
+ghost use Rattle.prt_refusals.specs.Refusal.{refusal_text};
+ghost use Rattle.prt_refusals.specs.declared.refusal.Refusal.{Refusal};
+ghost use Rattle.prt_refusals.specs.declared.refusal.Refusal.TheVariants.{NoMemory, ReadFault};
+ghost use Rattle.prt_replies.specs.Reply.{replies_text};
+ghost use Rattle.prt_replies.specs.declared.reply.Reply.{Reply};
+ghost use Rattle.prt_session.specs.Atomic.{ReadIs, accepted_after};
+ghost use Rattle.prt_words.specs.declared.fault.Fault.TheVariants.{Opening};
+
+use crate::local::{LocalNet, Socket};
+use crate::remote::{NotTold, PATIENCE, expect_atomic};
+use itoa::Buffer;
+use prt_diff::commands_text;
+use prt_feed::number_of;
+use prt_program::{Messages, Noting, ReadFiles, Refusal, buffered, cause_message, exit_status};
+use prt_refusals::StoreCall;
+use prt_replies::{Observer, Reply, ScriptEnd, refused_line, write_bytes};
+use prt_session::{Command, CommandsRead, collect_commands, write_accepted};
+use prt_words::{DONE, FAULT, Fault, STANDARD_INPUT, ServerPlace, Submitting};
+use std::alloc::{AllocError, Global};
+use std::io::{IsTerminal, Read, Write};
+use std::net::{OpenStream, Shutdown};
+use std::rt::Clock;
+use std::time::Duration;
+
+/// Each refusal that a server may reply.
+const REFUSALS: [Refusal; 34] = [
+    Refusal::LineTooLong,
+    Refusal::NotAscii,
+    Refusal::UnknownObject,
+    Refusal::UnknownVerb,
+    Refusal::UnknownWord,
+    Refusal::MissingValue,
+    Refusal::Repeated,
+    Refusal::BadAddress,
+    Refusal::BadPrefix,
+    Refusal::HostBits,
+    Refusal::BadNumber,
+    Refusal::BadTable,
+    Refusal::BadName,
+    Refusal::MissingDestination,
+    Refusal::NoNextHop,
+    Refusal::NextHopNotAllowed,
+    Refusal::TooBroad,
+    Refusal::SuppressNotAllowed,
+    Refusal::TooManyCommands,
+    Refusal::Closed,
+    Refusal::Exists,
+    Refusal::NoSuch,
+    Refusal::Full,
+    Refusal::CountFull,
+    Refusal::Busy,
+    Refusal::NoMemory,
+    Refusal::StoreFailed(StoreCall::Commit),
+    Refusal::NotPublished,
+    Refusal::NotFetched,
+    Refusal::Damaged,
+    Refusal::OpenFailed,
+    Refusal::ReadFault,
+    Refusal::WriteFault,
+    Refusal::TooManyLines,
+];
+
+/// Builds what a server is sent to make these commands together: how many there are, so that a script that is cut off changes
+/// nothing, and a line for each.
+fn submission_text(alloc: Global, commands: &[Command]) -> Result<Vec<u8>, NotTold>
+    ensures { IfOk result (λ text. text.items ≡ submission_text commands.now) }
+{
+    // Each command that was read has a line, so only memory may lack.
+    let Ok(lines) = commands_text(alloc, commands) else {
+        return Err(NotTold::Tables(Refusal::NoMemory));
+    };
+    let mut digits = Buffer::new();
+    let mut text = Vec::from_slice(alloc, b"commands ")?;
+    text.extend_from_slice(digits.format(commands.len()).as_bytes())?;
+    text.extend_from_slice(b"\n")?;
+    text.extend_from_slice(&lines)?;
+    Ok(text)
+}
+
+/// Sends a server an atomic script, and reads all that it replies.
+///
+/// # Errors
+///
+/// `Unknown` if the reply can't be read to its end: the commands may be made. Otherwise what befell the connection before, and
+/// none is made.
+fn exchange<N: LocalNet>(
+    rt: &N,
+    alloc: Global,
+    place: &ServerPlace<'_>,
+    sent: &[u8],
+) -> Result<Vec<u8>, NotTold>
+    ensures { IfOk result (λ reply. IsAtomicReply N.reaches N.Stream.remaining rt.now place.now sent.now reply.items) }
+{
+    let patience = Duration::from_secs(PATIENCE);
+    let mut stream = rt.reach(alloc, place, Socket::Atomic, patience, sent)?;
+    if stream.shutdown(Shutdown::Write).is_err() {
+        return Err(NotTold::Unknown);
+    }
+    let mut reply = Vec::new(alloc);
+    match stream.read_to_end(&mut reply) {
+        Ok(_) => Ok(reply),
+        Err(_) => Err(NotTold::Unknown),
+    }
+}
+
+/// Finds the number of commands that were accepted before those of a reply, if its first line accepts one.
+fn number_before(reply: &[u8]) -> Option<u64> {
+    let rest = reply.strip_prefix(b"ok ")?;
+    let digits = rest.split(|byte| *byte == b'\n').next()?;
+    number_of(digits)?.checked_sub(1)
+}
+
+/// Checks whether a reply accepts as many commands, with numbers that rise by one.
+///
+/// # Errors
+///
+/// `Tables` with `NoMemory`.
+fn accepts_each(alloc: Global, reply: &[u8], count: usize) -> Result<bool, NotTold>
+    ensures { IfOk result (λ accepts. accepts ≡ true → (number : ℕ) × (reply.now ≡ replies_text (accepted_after number count))) }
+{
+    let Some(number) = number_before(reply) else {
+        return Ok(false);
+    };
+    if number > u64::MAX - count as u64 {
+        return Ok(false);
+    }
+    let mut text = Vec::new(alloc);
+    if !write_accepted(&mut text, number, count) {
+        return Err(NotTold::Tables(Refusal::NoMemory));
+    }
+    Ok(text.as_slice() == reply)
+}
+
+/// Finds the refusal that a reply says, if that is all that it says.
+fn refusal_in(reply: &[u8]) -> Option<Refusal>
+    ensures { IfSome result (λ reason. reply.now ≡ refusal_text reason ++ codes "\n") }
+{
+    for refusal in REFUSALS {
+        if refused_line(refusal).as_bytes() == reply {
+            return Some(refusal);
+        }
+    }
+    None
+}
+
+/// Finds what a server made of as many commands by its reply: all, or none for this reason.
+///
+/// # Errors
+///
+/// `Unknown` if the reply says neither: all of them may be made. `Tables` with `NoMemory`.
+fn verdict(alloc: Global, reply: &[u8], count: usize) -> Result<Option<Refusal>, NotTold>
+    ensures { IfOk result (λ refusal. (told : List Reply) × (reply.now ≡ replies_text told) × IsVerdictOf count refusal told) }
+{
+    if accepts_each(alloc, reply, count)? {
+        return Ok(None);
+    }
+    match refusal_in(reply) {
+        Some(refusal) => Ok(Some(refusal)),
+        None => Err(NotTold::Unknown),
+    }
+}
+
+/// Finds how a script ends whose commands were refused for this reason, or accepted.
+fn end_of(refusal: Option<Refusal>) -> ScriptEnd
+    ensures refused { result.refused ≡ refused_by refusal }
+    ensures fault { result.fault ≡ fault_by refusal }
+{
+    match refusal {
+        Some(reason) => {
+            let reply = Reply::Refused(reason);
+            ScriptEnd::OPENING.with_reply(&reply)
+        }
+        None => ScriptEnd::OPENING,
+    }
+}
+
+/// Writes a reply that says this of the commands, and returns how the script ended.
+fn write_verdict<W: Write>(reply: &[u8], refusal: Option<Refusal>, output: &mut W) -> ScriptEnd
+    ensures { (told : List Reply) (count : ℕ) → told ≢ [] → reply.now ≡ replies_text told → IsVerdictOf count refusal told → EndsWith told (W.contents output.old) (W.contents output.new) result }
+{
+    let end = end_of(refusal);
+    if write_bytes(output, reply) {
+        return end;
+    }
+    end.with_write_fault()
+}
+
+/// Has a server make the commands of a script that was read, unless a line was refused or there is none, and writes its reply.
+///
+/// # Errors
+///
+/// Why it is not known that it made all of them or none: nothing is written.
+fn submit<N: LocalNet, W: Write>(
+    rt: &N,
+    alloc: Global,
+    place: &ServerPlace<'_>,
+    read: &CommandsRead,
+    output: &mut W,
+) -> Result<ScriptEnd, NotTold>
+    ensures sent { IfOk result (IsSent (IsAtomicReply N.reaches N.Stream.remaining rt.now place.now) read.now (W.contents output.old) (W.contents output.new)) }
+    ensures unwritten { OnErr result (W.contents output.new ≡ W.contents output.old) }
+    ensures quiet { OnErr result (IsQuiet read.now.end) }
+{
+    let CommandsRead { end, commands } = read;
+    if end.refused || end.fault.is_some() || commands.is_empty() {
+        return Ok(*end);
+    }
+    // A session would make the lines one by one. The name of a socket leaves no doubt.
+    if let ServerPlace::Address(_) = place {
+        expect_atomic(rt, alloc, place)?;
+    }
+    let sent = submission_text(alloc, commands)?;
+    let reply = exchange(rt, alloc, place, &sent)?;
+    let refusal = verdict(alloc, &reply, commands.len())?;
+    Ok(write_verdict(&reply, refusal, output))
+}
+
+/// Reads a script up to the first line that is refused, and collects its commands; the refusal is written.
+///
+/// # Errors
+///
+/// `Opening` with `NoMemory`.
+fn collect<R: Read + Drop, W: Write, O: Observer>(
+    alloc: Global,
+    input: R,
+    output: &mut W,
+    observer: &mut O,
+) -> Result<CommandsRead, Fault>
+    ensures read { IfOk result (λ read. (reader : Option (List ℕ)) × ReadIs read.commands.items (R.remaining input) reader (W.contents output.old) (W.contents output.new) read.end) }
+    ensures fault { IfErr result (λ fault. fault ≡ Opening NoMemory) }
+    ensures unwritten { OnErr result (W.contents output.new ≡ W.contents output.old) }
+{
+    let mut reader = buffered(alloc, input)?;
+    Ok(collect_commands(alloc, &mut reader, output, observer))
+}
+
+/// Opens the script at a path.
+///
+/// # Errors
+///
+/// `Opening` with `ReadFault`; the messages keep the cause.
+fn open_script<F: ReadFiles, E: Write + Drop, K: Clock + Drop>(
+    files: &F,
+    path: &str,
+    messages: &mut Messages<'_, E, K>,
+) -> Result<F::Opened, Fault>
+    ensures opened { IfOk result (F.opens files.now path.now) }
+    ensures fault { IfErr result (λ fault. fault ≡ Opening ReadFault) }
+{
+    match files.open_to_read(path) {
+        Ok(file) => Ok(file),
+        Err(error) => {
+            messages.keep_cause(path, &error);
+            Err(Fault::Opening(Refusal::ReadFault))
+        }
+    }
+}
+
+/// Reads a script, or the input if no file is named, and collects its commands; a refusal is written.
+///
+/// # Errors
+///
+/// `Opening` with `ReadFault` if the file can't be opened, or with `NoMemory`: nothing is written.
+fn collect_script<'a, F: ReadFiles, R: Read, W: Write, E: Write + Drop, K: Clock + Drop>(
+    files: &F,
+    alloc: Global,
+    file: Option<&'a str>,
+    input: &mut R,
+    output: &mut W,
+    messages: &mut Messages<'a, E, K>,
+) -> Result<CommandsRead, Fault>
+    ensures read { IfOk result (IsReadOf (IsRead (IsFileOf F.opens F.Opened.remaining files.now) (R.remaining input.old) (path_of file.entry)) (W.contents output.old) (W.contents output.new)) }
+    ensures fault { IfErr result (λ fault. (fault ≡ Opening ReadFault) ⊎ (fault ≡ Opening NoMemory)) }
+    ensures unwritten { OnErr result (W.contents output.new ≡ W.contents output.old) }
+{
+    let Some(path) = file else {
+        return collect(alloc, input, output, messages);
+    };
+    let mut script = Noting::new(open_script(files, path, messages)?);
+    let read = collect(alloc, &mut script, output, messages)?;
+    messages.tell_failure(path, &script);
+    Ok(read)
+}
+
+/// Has a server make the commands of a script together, writes what it replies, and returns the exit status.
+///
+/// The script is read as by `run_atomic`, and its first refusal is all that is written; then nothing is sent, and so it is of a
+/// script without commands. Its commands are sent in one atomic script, which changes nothing if it is cut off.
+///
+/// The status is 0 if all are accepted, 1 if a line or the server refuses them, and 3 for a fault. It is 3 too if the
+/// server isn't reached, takes no atomic scripts or doesn't reply: the messages say if the commands may be made nevertheless.
+pub fn submit_script<
+    F: ReadFiles + Clock,
+    N: LocalNet,
+    R: Read,
+    W: Write + IsTerminal,
+    E: Write + IsTerminal,
+>(
+    files: &F,
+    rt: &N,
+    alloc: Global,
+    submitting: &Submitting<'_>,
+    input: &mut R,
+    output: &mut W,
+    errors: &mut E,
+) -> u8
+    ensures run { IsSubmitted (sources_of F.opens F.Opened.remaining files.now N.reaches N.Stream.remaining rt.now (R.remaining input.old)) submitting.now.server (path_of submitting.now.file) (W.contents output.old) (W.contents output.new) result }
+    ensures whole { result ≡ DONE → IsAllMade (sources_of F.opens F.Opened.remaining files.now N.reaches N.Stream.remaining rt.now (R.remaining input.old)) submitting.now.server (path_of submitting.now.file) (W.contents output.old) (W.contents output.new) }
+{
+    let is_told = submitting.is_verbose || errors.is_terminal();
+    let mut messages = Messages::new(alloc, &mut *errors, files);
+    if is_told {
+        messages.turn_on();
+    }
+    messages.begin(submitting.file.unwrap_or(STANDARD_INPUT), &*output);
+    let read = match collect_script(files, alloc, submitting.file, input, output, &mut messages) {
+        Ok(read) => read,
+        Err(fault) => return messages.report(&fault, output),
+    };
+    match submit(rt, alloc, &submitting.server, &read, output) {
+        Ok(end) => {
+            messages.count_refusal(end);
+            messages.finish();
+            exit_status(end)
+        }
+        Err(reason) => {
+            messages.tell(cause_message(alloc, &submitting.server, &reason));
+            FAULT
+        }
+    }
+}
