@@ -21,7 +21,7 @@ use Rattle.prt_rule.specs.declared.rule.Mark.{Mark}
 use Rattle.prt_rule.specs.declared.rule.Rule.{Rule}
 use Rattle.prt_version.specs.RuleIndex.{AreLinked, IsNext, list_at, list_beside, list_in, list_marked, list_named, list_of, lists_for, name_number}
 use Rattle.prt_version.specs.Select.{decision}
-use Rattle.prt_version.specs.Steps.{IsFirst, IsFirstIn, IsSilent, first_verdict}
+use Rattle.prt_version.specs.Steps.{IsFirst, IsSilent, first_verdict}
 use Rattle.prt_version.specs.declared.answer.Verdict.{Verdict}
 use Rattle.prt_version.specs.declared.answer.Verdict.TheVariants.{NoRoute}
 use Rattle.prt_version.proofs.Verdicts.{by}

@@ -9,6 +9,7 @@ pub mod Sound
 pub mod RowsSpell
 pub mod Content
 pub mod Ordered
+pub mod Found
 pub mod Select
 pub mod Steps
 pub mod Example

@@ -19,7 +19,7 @@ mod shared_table;
 mod tables;
 mod version;
 
-pub use answer::{Answer, Verdict};
+pub use answer::{Answer, Found, Verdict};
 pub use change::Change;
 pub use limits::{MOST_COMMANDS, MOST_ROUTES, MOST_RULES};
 pub use prt_command::{Action, Command, NewRule, Packet, Refusal, Route, Rule};

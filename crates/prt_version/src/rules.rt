@@ -1,13 +1,14 @@
 //! The rules of a version, in the order in which they are tried, with an index if they are many.
 ghost use Rattle.std.specs.Prelude.{◌≡◌, IfOk};
 ghost use Rattle.prt_rule.specs.Sound.{IsInOrder};
+ghost use Rattle.prt_version.specs.Found.{verdict_in};
 ghost use Rattle.prt_version.specs.RuleIndex.{HasIndex};
 ghost use Rattle.prt_version.specs.Select.{verdict_of};
 
 use crate::rule_index::RuleIndex;
-use crate::select::{first_verdict, indexed_verdict};
+use crate::select::{first_found, indexed_found};
 use crate::tables::Tables;
-use crate::{MOST_RULES, Packet, Rule, Verdict};
+use crate::{Found, MOST_RULES, Packet, Rule};
 use std::alloc::{AllocError, Global};
 use std::marker::Model;
 
@@ -65,13 +66,13 @@ impl Rules {
     }
 
     /// Finds what the rules make of a packet.
-    pub(crate) fn verdict(&self, routes: &Tables, packet: &Packet) -> Verdict
+    pub(crate) fn found<'a>(&self, routes: &'a Tables, packet: &Packet) -> Found<'a>
         requires { IsInOrder self.now }
-        ensures { result ≡ verdict_of self.now routes.now packet.now }
+        ensures { verdict_in result ≡ verdict_of self.now routes.now packet.now }
     {
         match &self.index {
-            Some(index) => indexed_verdict(&self.rules, index, routes, packet),
-            None => first_verdict(&self.rules, routes, packet),
+            Some(index) => indexed_found(&self.rules, index, routes, packet),
+            None => first_found(&self.rules, routes, packet),
         }
     }
 }

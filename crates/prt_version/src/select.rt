@@ -1,11 +1,12 @@
 ghost use Rattle.std.specs.Prelude.{◌≡◌, ◌<◌, ◌≤◌, length, option_map};
+ghost use Rattle.prt_version.specs.Found.{verdict_in};
 ghost use Rattle.prt_version.specs.RuleIndex.{IsIndex};
 ghost use Rattle.prt_version.specs.Select.{decision, suppresses, table_lookup};
 ghost use Rattle.prt_version.specs.Steps.{IsFirstIn, first_verdict};
 
 use crate::rule_index::{RuleIndex, lists_for};
 use crate::tables::Tables;
-use crate::{Action, Packet, Route, Rule, Verdict};
+use crate::{Action, Found, Packet, Route, Rule, Verdict};
 use prt_route::Kind;
 use prt_rule::matches;
 
@@ -36,53 +37,60 @@ fn suppresses(suppress: Option<u8>, route: &Route) -> bool
 
 /// Finds what one rule says of a packet, if it decides (`ip-rule(8)`).
 #[inline(always)]
-fn decision(rule: &Rule, routes: &Tables, packet: &Packet) -> Option<Verdict>
-    ensures { result ≡ decision rule.now routes.now packet.now }
+fn decision<'a>(rule: &Rule, routes: &'a Tables, packet: &Packet) -> Option<Found<'a>>
+    ensures { option_map verdict_in result ≡ decision rule.now routes.now packet.now }
 {
     if !matches(rule, packet) {
         return None;
     }
     let Action::Lookup(table) = rule.action else {
-        return Some(Verdict::RuleSays(rule.priority, rule.action));
+        return Some(Found::RuleSays(rule.priority, rule.action));
     };
     let route = table_lookup(routes, table, packet)?;
     if suppresses(rule.suppress, route) {
         return None;
     }
-    Some(Verdict::Route(rule.priority, *route))
+    Some(Found::Route(rule.priority, route))
+}
+
+/// Finds what the first of these rules that decides says, if they are tried as they come (`ip-rule(8)`).
+#[tactic(auto, using(crate::proofs::Verdicts::decides, crate::proofs::Verdicts::passes_on))]
+pub(crate) fn first_found<'a>(rules: &[Rule], routes: &'a Tables, packet: &Packet) -> Found<'a>
+    ensures { verdict_in result ≡ first_verdict rules.now routes.now packet.now }
+{
+    for rule in rules {
+        if let Some(found) = decision(rule, routes, packet) {
+            return found;
+        }
+    }
+    Found::NoRoute
 }
 
 /// Finds what the first of these rules that decides says, if they are tried as they come (`ip-rule(8)`). It takes no memory.
-#[tactic(auto, using(crate::proofs::Verdicts::decides, crate::proofs::Verdicts::passes_on))]
 pub fn first_verdict(rules: &[Rule], routes: &Tables, packet: &Packet) -> Verdict
     ensures { result ≡ first_verdict rules.now routes.now packet.now }
 {
-    for rule in rules {
-        if let Some(verdict) = decision(rule, routes, packet) {
-            return verdict;
-        }
-    }
-    Verdict::NoRoute
+    first_found(rules, routes, packet).verdict()
 }
 
 /// Finds the place of the first rule of the list that decides, before this place, and what it says.
-fn first_in(
+fn first_in<'a>(
     rules: &[Rule],
     index: &RuleIndex,
     list: usize,
     before: usize,
-    routes: &Tables,
+    routes: &'a Tables,
     packet: &Packet,
-) -> Option<(usize, Verdict)>
+) -> Option<(usize, Found<'a>)>
     requires index { IsIndex rules.now index.now }
     requires list { list < 513 }
     requires before { before ≤ length rules.now }
-    ensures { IsFirstIn rules.now list before routes.now packet.now result }
+    ensures { IsFirstIn rules.now list before routes.now packet.now (option_map (λ first. (first.0, verdict_in first.1)) result) }
 {
     let mut place = index.first[list] as usize;
     while place < before {
-        if let Some(verdict) = decision(&rules[place], routes, packet) {
-            return Some((place, verdict));
+        if let Some(found) = decision(&rules[place], routes, packet) {
+            return Some((place, found));
         }
         place = index.next[place] as usize;
     }
@@ -90,23 +98,23 @@ fn first_in(
 }
 
 /// Finds what the first of the rules that decides says, and tries only those in the lists of the packet.
-pub(crate) fn indexed_verdict(
+pub(crate) fn indexed_found<'a>(
     rules: &[Rule],
     index: &RuleIndex,
-    routes: &Tables,
+    routes: &'a Tables,
     packet: &Packet,
-) -> Verdict
+) -> Found<'a>
     requires { IsIndex rules.now index.now }
-    ensures { result ≡ first_verdict rules.now routes.now packet.now }
+    ensures { verdict_in result ≡ first_verdict rules.now routes.now packet.now }
 {
     let lists = lists_for(packet);
     let mut before = rules.len();
-    let mut verdict = Verdict::NoRoute;
+    let mut found = Found::NoRoute;
     for list in lists.as_slice() {
         if let Some((place, says)) = first_in(rules, index, *list, before, routes, packet) {
             before = place;
-            verdict = says;
+            found = says;
         }
     }
-    verdict
+    found
 }

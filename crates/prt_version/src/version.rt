@@ -5,6 +5,7 @@ ghost use Rattle.prt_route.specs.Edit.{after_edit};
 ghost use Rattle.prt_rule.specs.Sound.{IsInOrder};
 ghost use Rattle.prt_version.specs.Accepted.{IsAccepted, IsRefusedFor, changes_of};
 ghost use Rattle.prt_version.specs.Change.{IsChecked, check, fold, put, rule_of};
+ghost use Rattle.prt_version.specs.Found.{verdict_in};
 ghost use Rattle.prt_version.specs.Listing.{listing};
 ghost use Rattle.prt_version.specs.RowsSpell.{RowsSpell, RowsSpellNone};
 ghost use Rattle.prt_version.specs.Select.{select};
@@ -20,7 +21,7 @@ use crate::rules::Rules;
 use crate::several::make_all;
 use crate::tables::Tables;
 use crate::{
-    Action, Answer, Change, Command, MOST_COMMANDS, NewRule, Packet, Refusal, Route, Rule,
+    Action, Answer, Change, Command, Found, MOST_COMMANDS, NewRule, Packet, Refusal, Route, Rule,
 };
 use prt_route::{DEFAULT_TABLE, LOCAL_TABLE, MAIN_TABLE, Prefix, RouteEdit, Selector};
 use prt_rule::auto_priority;
@@ -307,6 +308,13 @@ impl Version {
         Ok((changes, last))
     }
 
+    /// Finds what becomes of a packet, as [`Version::select`] does, and lends the route. It takes no memory.
+    pub fn find(&self, packet: &Packet) -> Found<'_>
+        ensures { verdict_in result ≡ select self.now packet.now }
+    {
+        self.rules.found(&self.routes, packet)
+    }
+
     /// Finds what becomes of a packet: what the first rule that decides says of it (`ip-rule(8)`). It takes no memory.
     pub fn select(&self, packet: &Packet) -> Answer
         ensures number { result.number ≡ self.now.count }
@@ -314,7 +322,7 @@ impl Version {
     {
         Answer {
             number: self.count,
-            verdict: self.rules.verdict(&self.routes, packet),
+            verdict: self.find(packet).verdict(),
         }
     }
 }

@@ -1,6 +1,8 @@
-use Rattle.std.proofs.Common.{◌≡◌, ◌+◌, ◌<◌, ◌∙◌, arith, get_or, length, subst, sym}
+use Rattle.std.proofs.Common.{◌+◌, ◌<◌, ◌∙◌, ap, arith, get_or, length, subst, sym}
+use Rattle.std.specs.Prelude.{option_map}
+use Rattle.prt_version.specs.Found.{verdict_in}
 use Rattle.prt_version.specs.RuleIndex.{IsNext}
-use Rattle.prt_version.proofs.RuleIndexes.{first_here, silent_first, silent_next, silent_to}
+use Rattle.prt_version.proofs.RuleIndexes.{silent_next}
 use Rattle.prt_version.proofs.select.first_in.Goals as goal
 
 -- the next of the list
@@ -20,5 +22,5 @@ loop-place-preserved c =
     record {
       within = next.within;
       is = next.is;
-      silent = silent_next c.args.rules.now c.args.list c.args.routes.now c.args.packet.now c.loop-place.place c.index.result.now c.index-rules-place.result (omega (arith, c.loop-place-test.true, c.requires.before)) c.index-rules-place.is (sym c.decision.ensures ∙ c.in_default.is) next c.loop-place.invariant.silent;
+      silent = silent_next c.args.rules.now c.args.list c.args.routes.now c.args.packet.now c.loop-place.place c.index.result.now c.index-rules-place.result (omega (arith, c.loop-place-test.true, c.requires.before)) c.index-rules-place.is (sym c.decision.ensures ∙ ap (option_map verdict_in) c.in_default.is) next c.loop-place.invariant.silent;
     }
