@@ -9,6 +9,7 @@ pub mod RowOrder
 pub mod RuleOrder
 pub mod RuleIndexes
 pub mod Verdicts
+mod Silent
 pub mod Runs
 pub mod SortedRows
 pub mod Successor

@@ -12,5 +12,6 @@ pub mod Ordered
 pub mod Found
 pub mod Select
 pub mod Steps
+pub mod Tried
 pub mod Example
 pub mod RuleIndex

@@ -17,6 +17,7 @@ mod select;
 mod several;
 mod shared_table;
 mod tables;
+mod tried;
 mod version;
 
 pub use answer::{Answer, Found, Verdict};

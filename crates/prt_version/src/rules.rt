@@ -4,10 +4,12 @@ ghost use Rattle.prt_rule.specs.Sound.{IsInOrder};
 ghost use Rattle.prt_version.specs.Found.{verdict_in};
 ghost use Rattle.prt_version.specs.RuleIndex.{HasIndex};
 ghost use Rattle.prt_version.specs.Select.{verdict_of};
+ghost use Rattle.prt_version.specs.Tried.{AreTried};
 
 use crate::rule_index::RuleIndex;
 use crate::select::{first_found, indexed_found};
 use crate::tables::Tables;
+use crate::tried::Tried;
 use crate::{Found, MOST_RULES, Packet, Rule};
 use std::alloc::{AllocError, Global};
 use std::marker::Model;
@@ -65,14 +67,26 @@ impl Rules {
         self.rules.allocator()
     }
 
-    /// Finds what the rules make of a packet.
-    pub(crate) fn found<'a>(&self, routes: &'a Tables, packet: &Packet) -> Found<'a>
-        requires { IsInOrder self.now }
+    /// Finds which rules are tried for packets: all, if they are many.
+    pub(crate) fn tried(&self, routes: &Tables) -> Tried
+        ensures { AreTried self.now routes.now result }
+    {
+        if self.rules.len() < FEW {
+            Tried::among(&self.rules, routes)
+        } else {
+            Tried::all(&self.rules)
+        }
+    }
+
+    /// Finds what the rules make of a packet, of which these are tried if there is no index.
+    pub(crate) fn found<'a>(&self, tried: Tried, routes: &'a Tables, packet: &Packet) -> Found<'a>
+        requires order { IsInOrder self.now }
+        requires tried { AreTried self.now routes.now tried }
         ensures { verdict_in result ≡ verdict_of self.now routes.now packet.now }
     {
         match &self.index {
             Some(index) => indexed_found(&self.rules, index, routes, packet),
-            None => first_found(&self.rules, routes, packet),
+            None => first_found(&self.rules, tried, routes, packet),
         }
     }
 }

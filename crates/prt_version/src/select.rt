@@ -3,9 +3,11 @@ ghost use Rattle.prt_version.specs.Found.{verdict_in};
 ghost use Rattle.prt_version.specs.RuleIndex.{IsIndex};
 ghost use Rattle.prt_version.specs.Select.{decision, suppresses, table_lookup};
 ghost use Rattle.prt_version.specs.Steps.{IsFirstIn, first_verdict};
+ghost use Rattle.prt_version.specs.Tried.{AreTried};
 
 use crate::rule_index::{RuleIndex, lists_for};
 use crate::tables::Tables;
+use crate::tried::Tried;
 use crate::{Action, Found, Packet, Route, Rule, Verdict};
 use prt_route::Kind;
 use prt_rule::matches;
@@ -54,12 +56,18 @@ fn decision<'a>(rule: &Rule, routes: &'a Tables, packet: &Packet) -> Option<Foun
 }
 
 /// Finds what the first of these rules that decides says, if they are tried as they come (`ip-rule(8)`).
-#[tactic(auto, using(crate::proofs::Verdicts::decides, crate::proofs::Verdicts::passes_on))]
-pub(crate) fn first_found<'a>(rules: &[Rule], routes: &'a Tables, packet: &Packet) -> Found<'a>
+#[tactic(auto, using(crate::proofs::Silent::one_silent, crate::proofs::Silent::first_says, crate::proofs::Silent::none_says))]
+pub(crate) fn first_found<'a>(
+    rules: &[Rule],
+    tried: Tried,
+    routes: &'a Tables,
+    packet: &Packet,
+) -> Found<'a>
+    requires { AreTried rules.now routes.now tried }
     ensures { verdict_in result ≡ first_verdict rules.now routes.now packet.now }
 {
-    for rule in rules {
-        if let Some(found) = decision(rule, routes, packet) {
+    for place in tried.from..tried.to {
+        if let Some(found) = decision(&rules[place], routes, packet) {
             return found;
         }
     }
@@ -70,7 +78,7 @@ pub(crate) fn first_found<'a>(rules: &[Rule], routes: &'a Tables, packet: &Packe
 pub fn first_verdict(rules: &[Rule], routes: &Tables, packet: &Packet) -> Verdict
     ensures { result ≡ first_verdict rules.now routes.now packet.now }
 {
-    first_found(rules, routes, packet).verdict()
+    first_found(rules, Tried::all(rules), routes, packet).verdict()
 }
 
 /// Finds the place of the first rule of the list that decides, before this place, and what it says.

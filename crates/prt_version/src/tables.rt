@@ -1,5 +1,5 @@
 //! The routes of a version, in one table for each number that has any.
-ghost use Rattle.std.specs.Prelude.{◌≡◌, ◌≤◌, [], ◌++◌, length, filter, unwrap_or, IfOk, IfSome, OnOk, option_map};
+ghost use Rattle.std.specs.Prelude.{◌≡◌, ◌≤◌, [], ◌++◌, length, filter, true, unwrap_or, IfOk, IfSome, OnOk, option_map};
 ghost use Rattle.std.specs.Arc.{arc_value};
 ghost use Rattle.std.specs.Option.{option_copied};
 ghost use Rattle.prt_addr.specs.Rising.{IsRising};
@@ -128,6 +128,13 @@ impl Tables {
         ensures { unwrap_or (option_map (λ table. table.now) result) [] ≡ rows_of_table number self.now }
     {
         Some(self.shared_table(number)?)
+    }
+
+    /// Checks whether the table of this number has no routes.
+    pub(crate) fn lacks(&self, number: u32) -> bool
+        ensures { result ≡ true → [] ≡ rows_of_table number self.now }
+    {
+        self.table(number).is_none()
     }
 
     /// Finds the best route of the table for the address: longest match, then lowest metric (RFC 1812, section

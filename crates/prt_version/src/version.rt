@@ -20,6 +20,7 @@ use crate::rule_edits::{flushed_rules, with_rule, without_rule};
 use crate::rules::Rules;
 use crate::several::make_all;
 use crate::tables::Tables;
+use crate::tried::Tried;
 use crate::{
     Action, Answer, Change, Command, Found, MOST_COMMANDS, NewRule, Packet, Refusal, Route, Rule,
 };
@@ -35,18 +36,20 @@ pub struct Version {
     count: u64,
     rules: Arc<Rules>,
     routes: Arc<Tables>,
+    tried: Tried,
 }
 
 impl Model for Version {
     ghost use Rattle.std.specs.Arc.{arc_value};
     ghost use Rattle.prt_version.specs.State.{State};
     ghost use Rattle.prt_version.specs.Sound.{IsSound};
+    ghost use Rattle.prt_version.specs.Tried.{AreTried};
 
     ghost Value = { State };
 
     ghost view = { λ v. record { count = v.count; rules = arc_value v.rules; routes = arc_value v.routes } };
 
-    ghost invariant = { λ v. IsSound (record { count = v.count; rules = arc_value v.rules; routes = arc_value v.routes }) };
+    ghost invariant = { λ v. IsSound (record { count = v.count; rules = arc_value v.rules; routes = arc_value v.routes }) × AreTried (arc_value v.rules) (arc_value v.routes) v.tried };
 }
 
 /// Makes a rule that looks up a table for every packet, as the three of a new database do (`ip-rule(8)`).
@@ -78,6 +81,20 @@ pub fn opening_rules() -> [Rule; 3]
 }
 
 impl Version {
+    /// Makes the version of these, and finds which rules are tried.
+    fn of(count: u64, rules: Arc<Rules>, routes: Arc<Tables>) -> Version
+        requires { IsSound (record { count = count; rules = arc_value rules; routes = arc_value routes }) }
+        ensures { result ≡ record { count = count; rules = arc_value rules; routes = arc_value routes } }
+    {
+        let tried = rules.tried(&routes);
+        Version {
+            count,
+            rules,
+            routes,
+            tried,
+        }
+    }
+
     /// Makes the version of a new database: no routes, and the rules for local, main and default (`ip-rule(8)`).
     ///
     /// # Errors
@@ -89,11 +106,11 @@ impl Version {
     {
         let opening = Vec::from_slice(alloc, &opening_rules())?;
         let rules = Rules::new(opening)?;
-        Ok(Version {
-            count: 0,
-            rules: first_owner(alloc, rules)?,
-            routes: first_owner(alloc, Tables::new(alloc))?,
-        })
+        Ok(Version::of(
+            0,
+            first_owner(alloc, rules)?,
+            first_owner(alloc, Tables::new(alloc))?,
+        ))
     }
 
     /// Makes the version that the rows of rules and of routes encode after this many commands. They come in any order.
@@ -124,11 +141,11 @@ impl Version {
         let rules = Rules::new(ordered)?;
         let routes = ordered_routes(routes)?;
         let tables = Tables::from_sorted(alloc, &routes)?;
-        Ok(Version {
-            count: number,
-            rules: first_owner(alloc, rules)?,
-            routes: first_owner(alloc, tables)?,
-        })
+        Ok(Version::of(
+            number,
+            first_owner(alloc, rules)?,
+            first_owner(alloc, tables)?,
+        ))
     }
 
     /// Returns the number of commands that were accepted up to this version. Its contract also says what holds of each
@@ -268,11 +285,11 @@ impl Version {
         ensures value { IfOk result (λ version. version ≡ put self.now change.now) }
         ensures reason { IfErr result (λ reason. reason ≡ NoMemory) }
     {
-        Ok(Version {
-            count: self.count + 1,
-            rules: self.rules_after(change)?,
-            routes: self.routes_after(change)?,
-        })
+        Ok(Version::of(
+            self.count + 1,
+            self.rules_after(change)?,
+            self.routes_after(change)?,
+        ))
     }
 
     /// Makes another owner of the same rules and routes, without copying them.
@@ -283,11 +300,11 @@ impl Version {
     pub fn share(&self) -> Result<Version, AllocError>
         ensures { IfOk result (λ version. version ≡ self.now) }
     {
-        Ok(Version {
-            count: self.count,
-            rules: Arc::try_clone(&self.rules)?,
-            routes: Arc::try_clone(&self.routes)?,
-        })
+        Ok(Version::of(
+            self.count,
+            Arc::try_clone(&self.rules)?,
+            Arc::try_clone(&self.routes)?,
+        ))
     }
 
     /// Returns the changes that commands make of this version, which stays as it is, one after the other, and the version
@@ -312,7 +329,7 @@ impl Version {
     pub fn find(&self, packet: &Packet) -> Found<'_>
         ensures { verdict_in result ≡ select self.now packet.now }
     {
-        self.rules.found(&self.routes, packet)
+        self.rules.found(self.tried, &self.routes, packet)
     }
 
     /// Finds what becomes of a packet: what the first rule that decides says of it (`ip-rule(8)`). It takes no memory.
