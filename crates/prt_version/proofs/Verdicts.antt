@@ -1,5 +1,5 @@
 -- Rules that are tried one after another.
-use Rattle.std.proofs.Common.{◌≡◌, ℕ, ◌+◌, ◌<◌, Bool, List, [], ◌∷◌, Option, Some, None, refl, sym, ap, ◌∙◌, length, drop, get_or, drop-cons, add-one, suc, true, false, cond}
+use Rattle.std.proofs.Common.{◌≡◌, Bool, List, [], ◌∷◌, Option, Some, None, refl, sym, ap, ◌∙◌, true, false, cond}
 use Rattle.std.specs.Prelude.{filter, is_some, option_and_then, unwrap_or}
 use Rattle.std.specs.List.{AllByRecursion as Each}
 use Rattle.prt_addr.specs.Order.{first_by}
@@ -16,9 +16,6 @@ use Rattle.prt_version.specs.declared.answer.Verdict.{Verdict}
 use Rattle.prt_version.specs.declared.answer.Verdict.TheVariants.{NoRoute}
 use Rattle.prt_version.proofs.RuleOrder.{rule_order}
 
-first_rule : (rules : List Rule) (i : ℕ) (rule : Rule) → i < length rules → rule ≡ get_or rules i rule → drop i rules ≡ rule ∷ drop (i + 1) rules
-first_rule rules i rule inside is = rw add-one (drop-cons rules i rule inside ∙ ap (λ r. r ∷ drop (suc i) rules) (sym is))
-
 abbrev pub by_decision : List Rule → List Route → Packet → Option Verdict → Verdict
 by_decision rest routes packet (Some verdict) = verdict
 by_decision rest routes packet None = first_verdict rest routes packet
@@ -26,16 +23,6 @@ by_decision rest routes packet None = first_verdict rest routes packet
 pub by : (rule : Rule) (rest : List Rule) (routes : List Route) (packet : Packet) (d : Option Verdict) → decision rule routes packet ≡ d → first_verdict (rule ∷ rest) routes packet ≡ by_decision rest routes packet d
 by rule rest routes packet (Some verdict) e = ap (by_decision rest routes packet) e
 by rule rest routes packet None e = ap (by_decision rest routes packet) e
-
--- the rule at i decides
-pub decides : (rules : List Rule) (i : ℕ) (rule : Rule) (routes : List Route) (packet : Packet) (verdict : Verdict) → i < length rules → rule ≡ get_or rules i rule → decision rule routes packet ≡ Some verdict → first_verdict (drop i rules) routes packet ≡ verdict
-decides rules i rule routes packet verdict inside is says =
-    ap (λ rest. first_verdict rest routes packet) (first_rule rules i rule inside is) ∙ by rule (drop (i + 1) rules) routes packet (Some verdict) says
-
--- the rule at i does not decide
-pub passes_on : (rules : List Rule) (i : ℕ) (rule : Rule) (routes : List Route) (packet : Packet) → i < length rules → rule ≡ get_or rules i rule → decision rule routes packet ≡ None → first_verdict (drop i rules) routes packet ≡ first_verdict (drop (i + 1) rules) routes packet
-passes_on rules i rule routes packet inside is silent =
-    ap (λ rest. first_verdict rest routes packet) (first_rule rules i rule inside is) ∙ by rule (drop (i + 1) rules) routes packet None silent
 
 abbrev says : List Route → Packet → List Rule → Verdict
 says routes packet rules = unwrap_or (option_and_then (λ rule. decision rule routes packet) (first_by is_before rules)) NoRoute

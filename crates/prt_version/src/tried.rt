@@ -53,7 +53,7 @@ fn last_tried(rules: &[Rule], from: usize, routes: &Tables) -> usize
 }
 
 impl Tried {
-    /// Tries all of so many rules.
+    /// Tries all rules.
     pub(crate) fn all(rules: &[Rule]) -> Tried
         ensures { (routes : List Route) → AreTried rules.now routes result }
     {
