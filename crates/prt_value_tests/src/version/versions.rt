@@ -1,7 +1,8 @@
 use super::script::{answer, commands_of, next_version, version_after};
 use prt_command::Refusal;
 use prt_listing::refusal_text;
-use prt_version::{Change, Version, opening_rules};
+use prt_route::{Addr, Dev, Kind};
+use prt_version::{Change, Found, Packet, Version, opening_rules};
 use std::alloc::Global;
 use std::test::Fail;
 
@@ -118,6 +119,71 @@ fn suppresses_short_prefixes(rt: HostRuntime) -> Result<(), Fail> {
     let again = "rule add priority 5 suppress_prefixlength 8";
     assert!(rt; next_version(&version, again).err() == Some(Refusal::Exists));
     assert!(rt; next_version(&version, "rule add priority 5").is_ok());
+    Ok(())
+}
+
+/// Finds the first of these commands after which a packet to 10.2.0.0 is not answered by the text beside it, as tables
+/// get their first route and lose their last.
+fn misanswered_filling(alloc: Global) -> Result<Option<&'static str>, Fail> {
+    let mut version = Version::opening(alloc)?;
+    for (line, text) in [
+        (
+            "route add 10/8 via 192.0.2.1 table default",
+            "answer 1 rule 32767 table default 10.0.0.0/8 via 192.0.2.1",
+        ),
+        (
+            "route add 10/8 via 192.0.2.2",
+            "answer 2 rule 32766 table main 10.0.0.0/8 via 192.0.2.2",
+        ),
+        (
+            "route add 10/8 via 192.0.2.3 table local",
+            "answer 3 rule 0 table local 10.0.0.0/8 via 192.0.2.3",
+        ),
+        (
+            "route del 10/8 table local",
+            "answer 4 rule 32766 table main 10.0.0.0/8 via 192.0.2.2",
+        ),
+        (
+            "route del 10/8",
+            "answer 5 rule 32767 table default 10.0.0.0/8 via 192.0.2.1",
+        ),
+        ("route del 10/8 table default", "answer 6 none"),
+    ] {
+        version = next_version(&version, line)?;
+        if answer(alloc, &version, "route get 10.2")?.as_slice() != text.as_bytes() {
+            return Ok(Some(line));
+        }
+    }
+    Ok(None)
+}
+
+#[test]
+fn tries_rules_whose_tables_fill(rt: HostRuntime) -> Result<(), Fail> {
+    assert_eq!(rt; misanswered_filling(rt.alloc())?, None);
+    Ok(())
+}
+
+#[test]
+fn lends_what_it_finds(rt: HostRuntime) -> Result<(), Fail> {
+    let version = version_after(rt.alloc(), FAILURES)?;
+    let packet = Packet {
+        dst: Addr(0x0a02_0001),
+        src: Addr(0),
+        iif: Dev::loopback(),
+        mark: 0,
+    };
+    let found = version.find(&packet);
+    assert!(rt;
+        matches!(found, Found::Route(32766, route) if route.kind == Kind::Prohibit && route.prefix.len() == 16)
+    );
+    assert!(rt;
+        matches!(found.verdict().lend(), Found::Route(32766, route) if route.kind == Kind::Prohibit)
+    );
+    let elsewhere = Packet {
+        dst: Addr(0x0a03_0001),
+        ..packet
+    };
+    assert!(rt; matches!(version.find(&elsewhere), Found::NoRoute));
     Ok(())
 }
 
