@@ -1,10 +1,11 @@
 ghost use Rattle.std.specs.Prelude.{◌≡◌};
 ghost use Rattle.prt_c.specs.Answer.{action_number, addr_number, answer_of, by_route, has, kind_number, name_bytes, without_route, zero_ended};
+ghost use Rattle.prt_version.specs.Found.{verdict_in};
 
 use crate::packet::NAME_BYTES;
 use prt_route::{Addr, Dev, Kind, Route};
 use prt_rule::Action;
-use prt_version::{Answer, Verdict};
+use prt_version::{Answer, Found};
 
 /// What becomes of a packet, as C reads it.
 ///
@@ -151,16 +152,23 @@ fn write_by_route(number: u64, priority: u32, route: &Route, answer: &mut Answer
     write_name(route.dev, &mut answer.device);
 }
 
-/// Writes an answer in the form that C reads.
+/// Writes what was found after this many commands in the form that C reads.
 // Field by field into C's own memory: a copy that was made of a whole answer would wait until its fields are written.
-pub(crate) fn write_answer(found: &Answer, answer: &mut AnswerC)
-    ensures { answer.new ≡ answer_of found.now.number found.now.verdict }
+pub(crate) fn write_found(number: u64, found: &Found, answer: &mut AnswerC)
+    ensures { answer.new ≡ answer_of number (verdict_in found.now) }
 {
-    match &found.verdict {
-        Verdict::Route(priority, route) => write_by_route(found.number, *priority, route, answer),
-        Verdict::RuleSays(priority, action) => {
-            write_without_route(found.number, action_number(*action), *priority, answer);
+    match found {
+        Found::Route(priority, route) => write_by_route(number, *priority, route, answer),
+        Found::RuleSays(priority, action) => {
+            write_without_route(number, action_number(*action), *priority, answer);
         }
-        Verdict::NoRoute => write_without_route(found.number, 0, 0, answer),
+        Found::NoRoute => write_without_route(number, 0, 0, answer),
     }
+}
+
+/// Writes an answer in the form that C reads.
+pub(crate) fn write_answer(told: &Answer, answer: &mut AnswerC)
+    ensures { answer.new ≡ answer_of told.now.number told.now.verdict }
+{
+    write_found(told.number, &told.verdict.lend(), answer);
 }

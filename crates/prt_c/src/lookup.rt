@@ -3,7 +3,7 @@ ghost use Rattle.std.specs.Prelude.{◌≡◌, Err, IfErr, Ok, OnErr, OnOk};
 ghost use Rattle.prt_c.specs.Lookup.{answer_to, held_answer, status, written};
 ghost use Rattle.prt_c.specs.States.{held_state};
 
-use crate::answer::{AnswerC, write_answer};
+use crate::answer::{AnswerC, write_found};
 use crate::held::Held;
 use crate::packet::{PacketC, packet_by, read_interface};
 use crate::parts::Parts;
@@ -29,7 +29,7 @@ pub(crate) fn look_up(
 {
     let mut looked_up = packet_by(packet, Dev::loopback());
     read_interface(&packet.interface, &mut looked_up.iif)?;
-    write_answer(&version.select(&looked_up), answer);
+    write_found(version.number(), &version.find(&looked_up), answer);
     Ok(())
 }
 
