@@ -8,7 +8,7 @@ from routes import addr_text, route_line, tables
 from spent import spent
 
 TURNS = 3
-SIZES = (1_000, 10_000, 60_000, 100_000)
+SIZES = (1_000, 10_000, 20_000, 60_000, 100_000)
 TABLES = (60, 100, 1_000, 5_000)
 LOOKUPS = 400_000
 

@@ -10,7 +10,9 @@ mod prt;
 mod read_files;
 
 pub use databases::Databases;
-pub use messages::{Messages, cause_message, log_message, question_message};
+pub use messages::{
+    Messages, cause_message, complaint, log_message, question_message, shown_text,
+};
 pub use next::Next;
 pub use noting::Noting;
 pub use prt::{buffered, exit_status, program};

@@ -31,7 +31,11 @@ fn shown(byte: u8) -> char
 }
 
 /// Makes a text of the bytes of a line.
-fn shown_text(alloc: Global, line: &[u8]) -> Result<String, AllocError>
+///
+/// # Errors
+///
+/// `AllocError` alone.
+pub fn shown_text(alloc: Global, line: &[u8]) -> Result<String, AllocError>
     ensures { IfOk result (λ text. string_bytes text ≡ map shown line.now) }
 {
     let mut text = String::new(alloc);
@@ -112,8 +116,12 @@ fn blame(alloc: Global, refusal: Refusal, word: Option<&[u8]>) -> Result<String,
     format!(in alloc; "{reason}{call}{word}")
 }
 
-/// Makes the text of what is wrong with a line.
-fn complaint(
+/// Makes the text of what is wrong with a line: the refusal, the word that it is about in quotes, and the line.
+///
+/// # Errors
+///
+/// `AllocError` alone.
+pub fn complaint(
     alloc: Global,
     refusal: Refusal,
     word: Option<&[u8]>,

@@ -208,7 +208,7 @@ fn read_script<F: ReadFiles, R: Read, W: Write, E: Write>(
 {
     let script = read_whole(files, alloc, file, input, output, errors)?;
     let made = run_over_new(alloc, &script, output, errors)?;
-    if tell_left(alloc, &made.left, errors) == DONE {
+    if tell_left(alloc, file, &made.left, errors) == DONE {
         Ok(made)
     } else {
         Err(REFUSED)

@@ -294,7 +294,7 @@ fn ask_script<F: ReadFiles, R: Read, W: Write, E: Write>(
         Ok(made) => made,
         Err(status) => return status,
     };
-    let left = tell_left(alloc, &made.left, errors);
+    let left = tell_left(alloc, file, &made.left, errors);
     let place = file.unwrap_or(STANDARD_INPUT);
     let answered = said(alloc, &made.version, inquiry);
     let written = write_answer(alloc, &place, answered, output, errors);

@@ -11,9 +11,11 @@ use crate::machine::Machine;
 use crate::reading::{read_whole, report_no_memory};
 use crate::tables::{Tables, tables_at};
 use crate::telling::tell;
-use prt_claims::{BadClaim, BadLine, Breach, Checked, ClaimFault, check_claims, push_breach_line};
+use prt_claims::{
+    BadClaim, BadLine, Breach, Checked, ClaimFault, bad_word, check_claims, push_breach_line,
+};
 use prt_explain::explanation_text;
-use prt_program::{ReadFiles, Refusal};
+use prt_program::{ReadFiles, Refusal, complaint, shown_text};
 use prt_version::Version;
 use prt_words::{Asserting, DONE, FAULT, STANDARD_INPUT};
 use sqlite::{Alter, Connection};
@@ -24,27 +26,42 @@ use std::sync::Wait;
 /// The exit status if a claim can't be read.
 pub const UNREADABLE: u8 = 2;
 
-/// Makes the message of a line that is no claim.
-fn bad_message(alloc: Global, file: &str, bad: &BadLine) -> Result<String, AllocError> {
-    let line = bad.number;
-    let BadClaim { word, fault } = bad.reason;
-    match fault {
+/// Makes the text of why a line is no claim, with the word that is wrong and the line.
+fn reason_text(alloc: Global, line: &[u8], reason: &BadClaim) -> Result<String, AllocError> {
+    match reason.fault {
         ClaimFault::NoOutcome => {
-            format!(in alloc; "prt: {file}:{line}: word {word}: an outcome is missing\n")
+            let text = shown_text(alloc, line)?;
+            format!(in alloc; "an outcome is missing: {text}")
         }
-        ClaimFault::Refused(refusal) if word == 0 => {
-            format!(in alloc; "prt: {file}:{line}: {refusal}\n")
-        }
-        ClaimFault::Refused(refusal) => {
-            format!(in alloc; "prt: {file}:{line}: word {word}: {refusal}\n")
-        }
+        ClaimFault::Refused(refusal) => complaint(alloc, refusal, bad_word(line, reason), line),
     }
 }
 
-/// Reports each line that is no claim.
-fn report_bad<E: Write>(alloc: Global, file: &str, bad: &[BadLine], errors: &mut E) {
-    for line in bad {
-        tell(bad_message(alloc, file, line), errors);
+/// Makes the message of a line that is no claim.
+fn bad_message(
+    alloc: Global,
+    file: &str,
+    line: &[u8],
+    bad: &BadLine,
+) -> Result<String, AllocError> {
+    let number = bad.number;
+    let reason = reason_text(alloc, line, &bad.reason)?;
+    format!(in alloc; "prt: {file}:{number}: {reason}\n")
+}
+
+/// Reports each line of a text that is no claim. They come in the order of the text.
+fn report_bad<E: Write>(alloc: Global, file: &str, text: &[u8], bad: &[BadLine], errors: &mut E) {
+    let mut rest = bad;
+    let mut number: u64 = 0;
+    for line in text.split(|byte| *byte == b'\n') {
+        number = number.saturating_add(1);
+        let Some((first, others)) = rest.split_first() else {
+            return;
+        };
+        if first.number == number {
+            tell(bad_message(alloc, file, line, first), errors);
+            rest = others;
+        }
     }
 }
 
@@ -133,7 +150,7 @@ fn assert_over<F: ReadFiles, R: Read, W: Write, E: Write>(
     };
     if !is_readable(&checked) {
         let file = asserting.file.unwrap_or(STANDARD_INPUT);
-        report_bad(alloc, file, &checked.bad, errors);
+        report_bad(alloc, file, &text, &checked.bad, errors);
         return UNREADABLE;
     }
     let breaches = &checked.breaches;

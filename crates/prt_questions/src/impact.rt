@@ -133,7 +133,7 @@ fn rehearse_over<F: ReadFiles, R: Read, W: Write, E: Write>(
     let Ok(made) = accept_over(alloc, &tables.version, &script) else {
         return report_no_memory(output, errors);
     };
-    let left = tell_left(alloc, &made.left, errors);
+    let left = tell_left(alloc, rehearsing.file, &made.left, errors);
     if is_stopped(left, rehearsing.on_refusal) {
         return REFUSED;
     }

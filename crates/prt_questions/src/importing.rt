@@ -70,9 +70,9 @@ fn keep_lines<F: ReadFiles, E: Write>(
         Ok(accepted) => accepted,
         Err(refusal) => return Err(refusal),
     };
-    let _kept = tell_left(alloc, &imported.notes, errors);
-    let left = tell_left(alloc, &imported.left, errors);
-    let refused = tell_left(alloc, &accepted.left, errors);
+    let _kept = tell_left(alloc, None, &imported.notes, errors);
+    let left = tell_left(alloc, None, &imported.left, errors);
+    let refused = tell_left(alloc, None, &accepted.left, errors);
     let status = if left == DONE { refused } else { left };
     Ok((accepted, status, imported.left))
 }

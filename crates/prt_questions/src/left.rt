@@ -16,9 +16,12 @@ use std::io::Write;
 /// What a comment begins with that says what was left out of a script.
 const COMMENT: &[u8] = b"# left out:";
 
-/// Makes the message of a line that is left out, or of what is left out of one.
-fn left_message(alloc: Global, left: &Left) -> Result<String, AllocError> {
-    format!(in alloc; "prt: {left}\n")
+/// Makes the message of a line that is left out, or of what is left out of one, with the name of its file if it has one.
+fn left_message(alloc: Global, file: Option<&str>, left: &Left) -> Result<String, AllocError> {
+    match file {
+        Some(file) => format!(in alloc; "prt: {file}: {left}\n"),
+        None => format!(in alloc; "prt: {left}\n"),
+    }
 }
 
 /// Checks whether the kernel makes a line itself.
@@ -36,21 +39,26 @@ fn are_kernels(left: &[Left]) -> bool
 }
 
 /// Reports what was left out, except what the kernel makes itself.
-fn tell_others<E: Write>(alloc: Global, left: &[Left], errors: &mut E) {
+fn tell_others<E: Write>(alloc: Global, file: Option<&str>, left: &[Left], errors: &mut E) {
     for line in left {
         if !is_kernels(line) {
-            tell(left_message(alloc, line), errors);
+            tell(left_message(alloc, file, line), errors);
         }
     }
 }
 
-/// Reports what was left out, and returns the exit status for it. What the kernel makes itself isn't reported.
-pub(crate) fn tell_left<E: Write>(alloc: Global, left: &[Left], errors: &mut E) -> u8
+/// Reports what was left out of a file, and returns the exit status for it. What the kernel makes itself isn't reported.
+pub(crate) fn tell_left<E: Write>(
+    alloc: Global,
+    file: Option<&str>,
+    left: &[Left],
+    errors: &mut E,
+) -> u8
     ensures status { (result ≡ DONE) ⊎ (result ≡ REFUSED) }
     ensures kernels { result ≡ DONE → AreKernels left.now }
     ensures others { result ≡ REFUSED → list_all is_kernels left.now ≡ false }
 {
-    tell_others(alloc, left, errors);
+    tell_others(alloc, file, left, errors);
     if are_kernels(left) { DONE } else { REFUSED }
 }
 

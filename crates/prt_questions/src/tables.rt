@@ -130,7 +130,7 @@ fn script_tables<F: ReadFiles, R: Read, W: Write, E: Write>(
 {
     let script = read_whole(files, alloc, file, input, output, errors)?;
     let made = run_over_new(alloc, &script, output, errors)?;
-    let left = tell_left(alloc, &made.left, errors);
+    let left = tell_left(alloc, file, &made.left, errors);
     Ok(Tables {
         version: made.version,
         left,
