@@ -10,9 +10,7 @@ mod prt;
 mod read_files;
 
 pub use databases::Databases;
-pub use messages::{
-    Messages, cause_message, complaint, log_message, question_message, shown_text,
-};
+pub use messages::{Messages, cause_message, complaint, log_message, question_message, shown_text};
 pub use next::Next;
 pub use noting::Noting;
 pub use prt::{buffered, exit_status, program};
