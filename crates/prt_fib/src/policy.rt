@@ -1,8 +1,8 @@
 //! Compiled tables for all packets.
-ghost use Rattle.std.specs.Prelude.{◌≡◌, ◌⊎◌, ℕ, Err, IfErr, IfOk, false, map};
+ghost use Rattle.std.specs.Prelude.{◌≡◌, ◌⊎◌, ℕ, Err, IfErr, IfOk, None, OnOk, false, map};
 ghost use Rattle.prt_partition.specs.Classes.{IsPacket};
 ghost use Rattle.prt_partition.specs.Sameness.{outcome_of};
-ghost use Rattle.prt_version.specs.Change.{apply, check, put};
+ghost use Rattle.prt_version.specs.Change.{apply, check, put, refusal};
 ghost use Rattle.prt_version.specs.Select.{select};
 ghost use Rattle.prt_version.specs.State.{State};
 ghost use Rattle.prt_fib.specs.Fib.{outcome_to};
@@ -172,6 +172,7 @@ impl PolicyFib {
     /// What `Version::check` refuses the command for. Otherwise as of `new`.
     pub fn follow(&self, alloc: Global, command: &Command) -> Result<PolicyFib, Refusal>
         ensures state { IfOk result (λ all. all ≡ apply self.now command.now) }
+        ensures allowed { OnOk result (refusal self.now command.now ≡ None) }
         ensures reason { IfErr result (λ reason. (check self.now command.now ≡ Err reason) ⊎ IsUnfit (apply self.now command.now) reason) }
     {
         let change = match self.version.check(command) {
