@@ -1,5 +1,6 @@
 pub mod Changed
 pub mod Classified
+pub mod Crossing
 pub mod Finding
 pub mod Followed
 pub mod Linked
