@@ -2,12 +2,12 @@
  *
  * Tables hold the rules and routes of one database. Lines of prt's command language change them: `route add 10.0.0.0/8
  * via 192.0.2.1`. A version is what the tables hold at one moment, and never changes. Packets are looked up in versions.
- * For forwarding, a table is compiled from a version (prt_fib): it has the next hop of every destination, for packets of one
- * source, interface and mark.
+ * For forwarding, tables are compiled from a version: for all packets (prt_policy), or for those of one source, interface and
+ * mark (prt_fib). They have the next hop of every destination.
  *
  * The words above each call say what is proved of it; docs/reference/LIBRARY.md begins with an example. What C has to observe:
  *
- *   - A holder (prt_tables, prt_version, prt_fib) is empty when all its bytes are zero, as PRT_EMPTY_HOLDER makes it. After that
+ *   - A holder (prt_tables, prt_version, prt_fib, prt_policy) is empty when all its bytes are zero, as PRT_EMPTY_HOLDER makes it. After that
  *     only these calls write it. It isn't copied to be used twice.
  *   - A holder is given to one call at a time. It may go from thread to thread, by a lock, an atomic exchange, a thread's
  *     start or its end. Each thread that looks packets up has a version of its own: prt_tables_version makes one more
@@ -43,10 +43,11 @@ enum prt_status {
     PRT_EMPTY = 100       /* the holder that the call needs holds nothing */
 };
 
-/* Tables, a version of them, and a table that is compiled from a version. `at` is the library's own. */
+/* Tables, a version of them, and what is compiled from a version. `at` is the library's own. */
 typedef struct { void *at; } prt_tables;
 typedef struct { void *at; } prt_version;
 typedef struct { void *at; } prt_fib;
+typedef struct { void *at; } prt_policy;
 #define PRT_EMPTY_HOLDER { 0 }
 
 /* The bytes of an interface's name: 1 to 15, and zeros after them. */
@@ -215,6 +216,69 @@ uint32_t prt_fib_route(prt_fib *fib, uint32_t destination, prt_answer *answer);
 /* Releases this owner of a compiled table, and leaves `fib` empty. The last owner frees it, and what of its version no other
  * version shares. */
 void prt_fib_free(prt_fib *fib);
+
+/* ---- policy tables */
+
+/* Compiles what happens to every packet: a table for each class of sources, interfaces and marks that no rule tells apart.
+ * The policy table stays right for this version, and needs the holder `version` no more.
+ *
+ * It takes as long for each class as prt_fib_new, and as much memory.
+ *
+ * PRT_DONE         `policy` holds the policy table; what it held before is released.
+ * PRT_FULL         there are more than 64 classes, 100,000 boxes of packets that rules tell apart, or 65,536 outcomes of a class.
+ * PRT_NO_MEMORY    memory was refused.
+ * PRT_EMPTY        `version` holds nothing.
+ * After anything but PRT_DONE `policy` holds what it did. The version is as it was. */
+uint32_t prt_policy_new(prt_version *version, prt_policy *policy);
+
+/* Executes one line, as prt_tables_line does: `policy` then holds the policy table of the version after it. Other owners
+ * keep the one before it.
+ *
+ * A change of one route is followed in microseconds for each class. A change of rules takes as long as prt_policy_new. So
+ * does, now and then, one of a route.
+ *
+ * PRT_DONE         `policy` follows. `*number` is how many commands were accepted so far.
+ * 1 to 18          the first error of the line.
+ * 21 to 24         why the version refuses the command, or PRT_FULL as of prt_policy_new for the version after it.
+ * PRT_NO_MEMORY    memory was refused.
+ * PRT_EMPTY        `policy` holds nothing.
+ * After anything but PRT_DONE what `policy` holds and `*number` are as they were. */
+uint32_t prt_policy_follow(prt_policy *policy, const char *line, size_t length, uint64_t *number);
+
+/* Makes one more owner of a policy table, for another thread. Nothing is copied.
+ *
+ * PRT_DONE         `other` holds it; what it held before is released.
+ * PRT_NO_MEMORY    memory was refused; `other` holds what it did.
+ * PRT_EMPTY        `policy` holds nothing; `other` holds what it did. */
+uint32_t prt_policy_share(prt_policy *policy, prt_policy *other);
+
+/* Finds what happens to a packet.
+ *
+ * PRT_DONE         `*outcome` is it.
+ * PRT_BAD_NAME     `interface` is no name; `*outcome` is as it was.
+ * PRT_EMPTY        `policy` holds nothing; `*outcome` is as it was. */
+uint32_t prt_policy_find(prt_policy *policy, const prt_packet *packet, prt_outcome *outcome);
+
+/* Finds what happens to packets one after the other, as many as there are packets and outcomes, up to the first bad name.
+ *
+ * `*count` is how many were found, and `outcomes[k]` for each k below it is what happens to `packets[k]`. The other
+ * outcomes are as they were.
+ *
+ * PRT_DONE         all were found for which there are outcomes.
+ * PRT_BAD_NAME     `interface` of `packets[*count]` is no name.
+ * PRT_EMPTY        `policy` holds nothing; `*count` and the outcomes are as they were. */
+uint32_t prt_policy_find_many(prt_policy *policy, const prt_packet *packets, size_t packet_count, prt_outcome *outcomes,
+                              size_t outcome_count, size_t *count);
+
+/* Looks a packet up in the version of the policy table: which rule and which route decide. That takes as long as prt_lookup.
+ *
+ * PRT_DONE         `*answer` is what prt_lookup writes for the packet.
+ * PRT_BAD_NAME     `interface` is no name; `*answer` is as it was.
+ * PRT_EMPTY        `policy` holds nothing; `*answer` is as it was. */
+uint32_t prt_policy_route(prt_policy *policy, const prt_packet *packet, prt_answer *answer);
+
+/* Releases this owner of a policy table, and leaves `policy` empty. The last owner frees it. */
+void prt_policy_free(prt_policy *policy);
 
 #ifdef __cplusplus
 }

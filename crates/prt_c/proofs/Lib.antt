@@ -2,4 +2,5 @@ mod Answered
 mod Apart
 mod AsBox
 mod AsFibBox
+mod AsPolicyBox
 mod FibNumbers

@@ -7,4 +7,6 @@ pub mod Many
 pub mod Outcome
 pub mod Owned
 pub mod Packet
+pub mod Policies
+pub mod PolicyOwned
 pub mod States

@@ -21,13 +21,13 @@ held_answer None packet = None
 held_answer (Some state) packet = Some (answer_to state packet)
 
 -- what a lookup returns: 0, the number of a refusal, or that nothing is held
-abbrev pub status : Option (Result AnswerC Refusal) → ℕ
+abbrev pub status : {A : Type 0} → Option (Result A Refusal) → ℕ
 status None = EMPTY
 status (Some (Ok answer)) = DONE
 status (Some (Err reason)) = code_of reason
 
--- what a lookup leaves in the place of the answer, if this was there
-abbrev pub written : Option (Result AnswerC Refusal) → AnswerC → AnswerC
+-- what a lookup leaves in the place of what it finds, if this was there
+abbrev pub written : {A : Type 0} → Option (Result A Refusal) → A → A
 written (Some (Ok answer)) before = answer
 written (Some (Err reason)) before = before
 written None before = before

@@ -12,6 +12,10 @@ mod outcome;
 mod owner;
 mod packet;
 mod parts;
+mod policy;
+mod policy_held;
+mod policy_line;
+mod policy_owner;
 mod status;
 mod tables;
 
@@ -23,6 +27,11 @@ pub use fib_held::FibHeld;
 pub use held::Held;
 pub use lookup::prt_lookup;
 pub use many::prt_lookup_many;
+pub use policy::{
+    prt_policy_find, prt_policy_find_many, prt_policy_follow, prt_policy_free, prt_policy_new,
+    prt_policy_route, prt_policy_share,
+};
+pub use policy_held::PolicyHeld;
 pub use tables::{
     prt_tables_line, prt_tables_lines, prt_tables_new, prt_tables_release, prt_tables_version,
     prt_version_release,

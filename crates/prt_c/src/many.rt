@@ -1,5 +1,6 @@
 //! Lookups of many packets.
 ghost use Rattle.std.specs.Prelude.{◌≡◌, ◌≤◌, ◌⊎◌};
+ghost use Rattle.prt_c.specs.Lookup.{answer_to};
 ghost use Rattle.prt_c.specs.Many.{AreFound, AreLookedUp};
 ghost use Rattle.prt_c.specs.States.{held_state};
 
@@ -35,7 +36,7 @@ pub(crate) fn smaller(one: usize, other: usize) -> usize
 ///
 /// It takes no memory.
 fn answer_all(version: &Version, packets: &[PacketC], answers: &mut [AnswerC]) -> LookedUp
-    ensures { AreLookedUp version.now packets.now answers.old answers.new result }
+    ensures { AreLookedUp (answer_to version.now) packets.now answers.old answers.new result }
 {
     let room = smaller(packets.len(), answers.len());
     for place in 0..room {
@@ -72,7 +73,7 @@ pub extern "C" fn prt_lookup_many(
     count: &mut usize,
 ) -> u32
     ensures same { version.new.home ≡ version.old.home }
-    ensures found { AreFound (held_state version.old.home) packets.now answers.old answers.new count.old count.new result }
+    ensures found { AreFound answer_to (held_state version.old.home) packets.now answers.old answers.new count.old count.new result }
 {
     let Some(parts) = replace(version, Held::empty(alloc)).into_parts() else {
         return EMPTY;
