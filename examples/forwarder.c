@@ -5,10 +5,10 @@
  *
  * The feed is at that port, or at the socket `feed` in the server's directory.
  *
- * One thread follows the feed. After each transaction it makes an owner of the new version for each looker, and leaves it in
- * that looker's slot; who finds an older one there releases it. A looker takes what is in its slot, releases what it held,
- * and looks all destinations up again. When the feed ends each looker writes what it was answered at each number: its own
- * number, and the answer as `prt` gives it for `route get`.
+ * One thread follows the feed with a policy table. After each transaction it makes an owner of the new table for each looker,
+ * and leaves it in that looker's slot; who finds an older one there releases it. A looker takes what is in its slot, releases
+ * what it held, and looks all destinations up again. When the feed ends each looker writes what it was answered at each
+ * number: its own number, and the answer as `prt` gives it for `route get`.
  */
 #include <arpa/inet.h>
 #include <netinet/in.h>
@@ -28,7 +28,7 @@
 #define MOST_DESTINATIONS 64
 #define MOST_THREADS 64
 
-/* What a looker has, beside the version that it holds. A slot has the `at` of a version that it hasn't taken yet. */
+/* What a looker has, beside the table that it holds. A slot has the `at` of a table that it hasn't taken yet. */
 typedef struct {
     pthread_t thread;
     _Atomic(void *) slot;
@@ -41,7 +41,7 @@ static looker lookers[MOST_THREADS];
 static size_t threads;
 static prt_packet packets[MOST_DESTINATIONS];
 static size_t packet_count;
-/* Whether no version comes any more. */
+/* Whether no table comes any more. */
 static atomic_int is_ended;
 /* By how much the server's number of a state is greater than the library's. */
 static atomic_ullong ahead;
@@ -53,46 +53,50 @@ static void end_if(int failed, const char *what, unsigned status) {
     }
 }
 
-/* Looks all packets up in a version, and notes the answers. */
-static void look_up(looker *it, prt_version *version) {
+/* Finds the next hop of each packet, and notes which rule and route decide. One who forwards packets needs the outcome alone. */
+static void look_up(looker *it, prt_policy *policy) {
     for (size_t place = 0; place < packet_count; place++) {
+        prt_outcome outcome;
         prt_answer answer;
-        uint32_t status = prt_lookup(version, &packets[place], &answer);
+        uint32_t status = prt_policy_find(policy, &packets[place], &outcome);
+        end_if(status != PRT_DONE, "a packet has no outcome", status);
+        status = prt_policy_route(policy, &packets[place], &answer);
         end_if(status != PRT_DONE, "a packet has no answer", status);
+        end_if(outcome.kind != answer.kind || outcome.gateway != answer.gateway, "another next hop", outcome.gateway);
         fprintf(it->told, "%zu ", place);
         write_answer(it->told, &answer, answer.number + ahead);
     }
 }
 
-/* Looks packets up in each version that comes into the slot. */
+/* Looks packets up in each table that comes into the slot. */
 static void *run_looker(void *of) {
     looker *it = of;
-    prt_version version = PRT_EMPTY_HOLDER;
+    prt_policy policy = PRT_EMPTY_HOLDER;
     for (int last = 0; !last;) {
         /* What was left before the end is taken after it. */
         last = atomic_load(&is_ended);
         void *newer = atomic_exchange(&it->slot, NULL);
         if (newer) {
-            prt_version_release(&version);
-            version.at = newer;
-            look_up(it, &version);
+            prt_policy_free(&policy);
+            policy.at = newer;
+            look_up(it, &policy);
             last = 0;
         } else {
             sched_yield();
         }
     }
-    prt_version_release(&version);
+    prt_policy_free(&policy);
     return NULL;
 }
 
-/* Leaves an owner of the version that the tables are at in each slot. */
-static void hand_out(prt_tables *tables) {
+/* Leaves an owner of the policy table in each slot. */
+static void hand_out(prt_policy *policy) {
     for (size_t place = 0; place < threads; place++) {
-        prt_version version = PRT_EMPTY_HOLDER;
-        uint32_t status = prt_tables_version(tables, &version);
-        end_if(status != PRT_DONE, "a version", status);
-        prt_version untaken = { atomic_exchange(&lookers[place].slot, version.at) };
-        prt_version_release(&untaken);
+        prt_policy other = PRT_EMPTY_HOLDER;
+        uint32_t status = prt_policy_share(policy, &other);
+        end_if(status != PRT_DONE, "a policy table", status);
+        prt_policy untaken = { atomic_exchange(&lookers[place].slot, other.at) };
+        prt_policy_free(&untaken);
     }
 }
 
@@ -118,30 +122,44 @@ static FILE *connect_to_socket(const char *directory) {
     return open_at((struct sockaddr *)&place, sizeof place);
 }
 
-/* Executes a line of the feed, without its newline, and gives the number that the tables have then. */
-static uint64_t execute(prt_tables *tables, const char *line, size_t length) {
-    uint64_t number = 0;
-    uint32_t status = prt_tables_line(tables, line, length, &number);
-    end_if(status != PRT_DONE, "a line of the feed is refused", status);
+/* Reads the tables that the feed begins with, and compiles them. Gives the server's number of them. */
+static uint64_t compile(prt_policy *policy, FILE *feed) {
+    prt_tables tables = PRT_EMPTY_HOLDER;
+    prt_version version = PRT_EMPTY_HOLDER;
+    char *line = NULL;
+    size_t room = 0;
+    ssize_t length;
+    uint64_t executed = 0;
+    uint32_t status = prt_tables_new(&tables);
+    end_if(status != PRT_DONE, "new tables", status);
+    end_if(getline(&line, &room, feed) < 7 || strncmp(line, "state ", 6) != 0, "this is no feed", 0);
+    uint64_t number = strtoull(line + 6, NULL, 10);
+    while ((length = getline(&line, &room, feed)) > 0 && strcmp(line, "now\n") != 0) {
+        status = prt_tables_line(&tables, line, (size_t)length - 1, &executed);
+        end_if(status != PRT_DONE, "a line of the feed is refused", status);
+    }
+    end_if(length <= 0, "the feed ended within its tables", 0);
+    /* A dump may have more commands than the server accepted: the difference wraps, and so does its sum. */
+    atomic_store(&ahead, number - executed);
+    status = prt_tables_version(&tables, &version);
+    end_if(status != PRT_DONE, "a version", status);
+    status = prt_policy_new(&version, policy);
+    end_if(status != PRT_DONE, "a policy table", status);
+    prt_version_release(&version);
+    prt_tables_release(&tables);
+    free(line);
     return number;
 }
 
 /* Follows the feed to its end: the tables as they are, and then each change. */
-static void follow(prt_tables *tables, FILE *feed) {
+static void follow(prt_policy *policy, FILE *feed) {
     char *line = NULL, *command;
     size_t room = 0;
     ssize_t length;
-    uint64_t executed = 0;
+    uint64_t number = compile(policy, feed), executed;
     /* How many commands of the transaction are to come. */
     unsigned long long left = 0;
-    end_if(getline(&line, &room, feed) < 7 || strncmp(line, "state ", 6) != 0, "this is no feed", 0);
-    unsigned long long number = strtoull(line + 6, NULL, 10);
-    while ((length = getline(&line, &room, feed)) > 0 && strcmp(line, "now\n") != 0)
-        executed = execute(tables, line, (size_t)length - 1);
-    end_if(length <= 0, "the feed ended within its tables", 0);
-    /* A dump may have more commands than the server accepted: the difference wraps, and so does its sum. */
-    atomic_store(&ahead, number - executed);
-    hand_out(tables);
+    hand_out(policy);
     while ((length = getline(&line, &room, feed)) > 0) {
         if (*line == '#') {
             /* What was made together is shown together. */
@@ -149,9 +167,10 @@ static void follow(prt_tables *tables, FILE *feed) {
             continue;
         }
         end_if(strtoull(line, &command, 10) != ++number || *command != ' ', "a change is missing", 0);
-        execute(tables, command + 1, (size_t)(line + length - command) - 2);
+        uint32_t status = prt_policy_follow(policy, command + 1, (size_t)(line + length - command) - 2, &executed);
+        end_if(status != PRT_DONE, "a change can't be followed", status);
         if (left == 0 || --left == 0)
-            hand_out(tables);
+            hand_out(policy);
     }
     free(line);
 }
@@ -167,7 +186,7 @@ static void read_destinations(void) {
 }
 
 int main(int argc, char **argv) {
-    prt_tables tables = PRT_EMPTY_HOLDER;
+    prt_policy policy = PRT_EMPTY_HOLDER;
     threads = argc == 3 || argc == 4 ? strtoul(argv[argc - 1], NULL, 10) : 0;
     if (threads < 1 || threads > MOST_THREADS) {
         fprintf(stderr, "usage: forwarder (ADDR PORT | DIR) THREADS <DESTINATIONS\n");
@@ -175,14 +194,13 @@ int main(int argc, char **argv) {
     }
     read_destinations();
     FILE *feed = argc == 4 ? connect_to_port(argv[1], argv[2]) : connect_to_socket(argv[1]);
-    uint32_t status = prt_tables_new(&tables);
-    end_if(!feed || status != PRT_DONE, "new tables", status);
+    end_if(!feed, "the feed can't be read", 0);
     for (size_t place = 0; place < threads; place++) {
         looker *it = &lookers[place];
         it->told = open_memstream(&it->text, &it->length);
         end_if(!it->told || pthread_create(&it->thread, NULL, run_looker, it) != 0, "a thread", 0);
     }
-    follow(&tables, feed);
+    follow(&policy, feed);
     atomic_store(&is_ended, 1);
     for (size_t place = 0; place < threads; place++) {
         looker *it = &lookers[place];
@@ -192,7 +210,7 @@ int main(int argc, char **argv) {
             printf("%zu %s\n", place, line);
         free(it->text);
     }
-    prt_tables_release(&tables);
+    prt_policy_free(&policy);
     fclose(feed);
     return 0;
 }

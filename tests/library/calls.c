@@ -24,7 +24,7 @@ static uint32_t execute(prt_tables *tables, const char *line, uint64_t *number) 
 /* The structs have no holes, and an answer fits a line of a cache. */
 static void sizes(void) {
     MUST(sizeof(prt_packet) == 28 && sizeof(prt_answer) == 64 && sizeof(prt_version) == sizeof(void *));
-    MUST(sizeof(prt_outcome) == 36 && sizeof(prt_fib) == sizeof(void *));
+    MUST(sizeof(prt_outcome) == 36 && sizeof(prt_fib) == sizeof(void *) && sizeof(prt_policy) == sizeof(void *));
 }
 
 /* A call on an empty holder says so, and changes nothing. */
@@ -212,6 +212,100 @@ static void fibs(void) {
     prt_fib_free(&other);
 }
 
+/* A call on an empty holder of a policy table says so, and changes nothing. */
+static void empty_policy(void) {
+    prt_version version = PRT_EMPTY_HOLDER;
+    prt_policy policy = PRT_EMPTY_HOLDER, other = PRT_EMPTY_HOLDER;
+    prt_outcome outcome = { .kind = 7 };
+    prt_answer answer = { .number = 7 };
+    uint64_t number = 7;
+    size_t count = 7;
+    MUST(prt_policy_new(&version, &policy) == PRT_EMPTY && policy.at == NULL);
+    MUST(prt_policy_follow(&policy, "rule flush", 10, &number) == PRT_EMPTY && number == 7 && policy.at == NULL);
+    MUST(prt_policy_share(&policy, &other) == PRT_EMPTY && other.at == NULL);
+    MUST(prt_policy_find(&policy, &TO_TEN, &outcome) == PRT_EMPTY && outcome.kind == 7);
+    MUST(prt_policy_find_many(&policy, &TO_TEN, 1, &outcome, 1, &count) == PRT_EMPTY && outcome.kind == 7 && count == 7);
+    MUST(prt_policy_route(&policy, &TO_TEN, &answer) == PRT_EMPTY && answer.number == 7);
+    prt_policy_free(&policy);
+    MUST(policy.at == NULL);
+}
+
+static uint32_t follow(prt_policy *policy, const char *line, uint64_t *number) {
+    return prt_policy_follow(policy, line, strlen(line), number);
+}
+
+/* A packet with a bad name has no outcome, and ends a call for many. */
+static void policy_packets(prt_policy *policy) {
+    prt_packet packets[4] = { TO_TEN, { .source = 0xc0000201 }, { .interface = "a/b" }, TO_TEN };
+    prt_outcome outcomes[4] = { [2] = { .kind = 9 }, [3] = { .kind = 9 } };
+    prt_answer answer = { .number = 9 };
+    size_t count;
+    MUST(prt_policy_find(policy, &packets[2], &outcomes[2]) == PRT_BAD_NAME && outcomes[2].kind == 9);
+    MUST(prt_policy_route(policy, &packets[2], &answer) == PRT_BAD_NAME && answer.number == 9);
+    MUST(prt_policy_find_many(policy, packets, 4, outcomes, 4, &count) == PRT_BAD_NAME && count == 2);
+    MUST(outcomes[0].kind == PRT_UNICAST && outcomes[0].gateway == 0xc0000201 && outcomes[1].kind == PRT_BLACKHOLE);
+    MUST(outcomes[2].kind == 9 && outcomes[3].kind == 9);
+    MUST(prt_policy_find_many(policy, packets, 4, outcomes, 1, &count) == PRT_DONE && count == 1);
+    MUST(prt_policy_route(policy, &packets[1], &answer) == PRT_DONE && answer.kind == PRT_BLACKHOLE && answer.priority == 1);
+}
+
+/* A policy table follows lines, and stays where one is refused. Another owner of it keeps what it has. */
+static void policies(void) {
+    prt_tables tables = PRT_EMPTY_HOLDER;
+    prt_version version = PRT_EMPTY_HOLDER;
+    prt_policy policy = PRT_EMPTY_HOLDER, old = PRT_EMPTY_HOLDER;
+    prt_outcome outcome;
+    prt_answer answer;
+    uint64_t number;
+    MUST(prt_tables_new(&tables) == PRT_DONE && prt_tables_version(&tables, &version) == PRT_DONE);
+    MUST(prt_policy_new(&version, &policy) == PRT_DONE && prt_policy_share(&policy, &old) == PRT_DONE);
+    prt_version_release(&version);
+    prt_tables_release(&tables);
+    MUST(follow(&policy, "route add 10/8 via 192.0.2.1", &number) == PRT_DONE && number == 1);
+    MUST(follow(&policy, "rule add priority 1 from 192.0.2.1 blackhole", &number) == PRT_DONE && number == 2);
+    number = 7;
+    MUST(follow(&policy, "route add 10/8 via 192.0.2.2", &number) == PRT_EXISTS);
+    MUST(follow(&policy, "rule del priority 9", &number) == PRT_NO_SUCH);
+    MUST(follow(&policy, "frob add 11/8", &number) == 3 && follow(&policy, "route add 11/8", &number) == 15 && number == 7);
+    MUST(follow(&policy, "", &number) == PRT_DONE && number == 2);
+    MUST(follow(&policy, "route get 10.0.0.1", &number) == PRT_DONE && number == 2);
+    policy_packets(&policy);
+    MUST(prt_policy_find(&old, &TO_TEN, &outcome) == PRT_DONE && outcome.kind == PRT_NO_ROUTE);
+    MUST(prt_policy_route(&old, &TO_TEN, &answer) == PRT_DONE && answer.number == 0);
+    /* What the holder has before is released. */
+    MUST(prt_policy_share(&policy, &old) == PRT_DONE);
+    prt_policy_free(&policy);
+    MUST(policy.at == NULL);
+    MUST(prt_policy_find(&old, &TO_TEN, &outcome) == PRT_DONE && outcome.kind == PRT_UNICAST);
+    prt_policy_free(&old);
+}
+
+/* Seven rules that take a bit of the mark each make 128 classes, which are too many. */
+static void full_policy(void) {
+    static const prt_packet marked = { .mark = 64 };
+    prt_tables tables = PRT_EMPTY_HOLDER;
+    prt_version version = PRT_EMPTY_HOLDER;
+    prt_policy policy = PRT_EMPTY_HOLDER;
+    prt_outcome outcome;
+    uint64_t number;
+    char line[80];
+    MUST(prt_tables_new(&tables) == PRT_DONE);
+    for (int bit = 0; bit < 7; bit++) {
+        snprintf(line, sizeof line, "rule add priority %d fwmark %d/%d prohibit", bit + 1, 1 << bit, 1 << bit);
+        if (bit == 6) {
+            MUST(prt_tables_version(&tables, &version) == PRT_DONE && prt_policy_new(&version, &policy) == PRT_DONE);
+            number = 9;
+            MUST(follow(&policy, line, &number) == PRT_FULL && number == 9);
+        }
+        MUST(execute(&tables, line, &number) == PRT_DONE);
+    }
+    MUST(prt_tables_version(&tables, &version) == PRT_DONE && prt_policy_new(&version, &policy) == PRT_FULL);
+    MUST(prt_policy_find(&policy, &marked, &outcome) == PRT_DONE && outcome.kind == PRT_NO_ROUTE);
+    prt_version_release(&version);
+    prt_tables_release(&tables);
+    prt_policy_free(&policy);
+}
+
 int main(void) {
     sizes();
     empty_holders();
@@ -221,5 +315,8 @@ int main(void) {
     packets();
     empty_fib();
     fibs();
+    empty_policy();
+    policies();
+    full_policy();
     return 0;
 }
