@@ -35,15 +35,21 @@ tree_sync = recorded_sync (ClassTree.the_field).row _ _ (ClassTree.the_type).to_
 -- what a policy table is made of
 parts_send : IsSend (Inside.the_field).row
 parts_send = struct_send (shape Inside.the_type) (
-    version.the_send,
-    (vec.the_send Fib.the_row Global.the_row TheImpl.ghosts table.the_send global.the_send frees.the_frees,
-    (arc.the_send ClassTree.the_row Global.the_row TheImpl.ghosts tree_send global.the_send tree_sync global.the_sync frees.the_frees, tt)))
+  version.the_send,
+  (
+    vec.the_send Fib.the_row Global.the_row TheImpl.ghosts table.the_send global.the_send frees.the_frees,
+    (arc.the_send ClassTree.the_row Global.the_row TheImpl.ghosts tree_send global.the_send tree_sync global.the_sync frees.the_frees, tt),
+  ),
+)
 
 parts_sync : IsSync (Inside.the_field).row
 parts_sync = struct_sync (shape Inside.the_type) (
-    version.the_sync,
-    (vec.the_sync Fib.the_row Global.the_row TheImpl.ghosts table.the_sync global.the_sync,
-    (arc.the_sync ClassTree.the_row Global.the_row TheImpl.ghosts tree_send global.the_send tree_sync global.the_sync frees.the_frees, tt)))
+  version.the_sync,
+  (
+    vec.the_sync Fib.the_row Global.the_row TheImpl.ghosts table.the_sync global.the_sync,
+    (arc.the_sync ClassTree.the_row Global.the_row TheImpl.ghosts tree_send global.the_send tree_sync global.the_sync frees.the_frees, tt),
+  ),
+)
 
 pub policy_send : IsSend PolicyFib.the_row
 policy_send = view_send Inside.the_row _ _ _ _ (recorded_send (Inside.the_field).row _ _ (Inside.the_type).to_one parts_send)
