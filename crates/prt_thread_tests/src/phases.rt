@@ -1,4 +1,6 @@
 //! Each call of a publisher, and its end in each phase.
+ghost use Rattle.std.specs.Prelude.{◌≡◌};
+ghost use Rattle.prt_command.specs.Storable.{IsStorable};
 
 use crate::caller::{
     adopted, host_route, prepare_one, stored_number, submit_to_publisher, submit_two_together,
@@ -113,6 +115,17 @@ fn publishes_one_version_of_two_commands(rt: HostRuntime) -> Result<(), Fail> {
     Ok(())
 }
 
+/// Adds a command that the set has. Returns whether it is refused because its route exists.
+fn is_refused_again(set: &mut ChangeSet, command: &Command) -> bool
+    requires { IsStorable command.now }
+    ensures { set.new.base ≡ set.old.base }
+{
+    match set.add(command) {
+        Ok(()) => false,
+        Err(reason) => reason == Refusal::Exists,
+    }
+}
+
 /// Submits a set of two commands, to which one of them was tried to be added twice. Returns the number of the version that
 /// it is of, how many commands it has, the number of the version after them, and that of the receipt. The last is whether
 /// the second try was refused because the route exists.
@@ -125,7 +138,7 @@ fn submit_set<S: Alter + Drop, H: Wait + Copy + Drop>(
     let route = host_route(alloc, 1)?;
     let mut set = ChangeSet::new(publisher.published())?;
     set.add(&route)?;
-    let is_refused = set.add(&route).err() == Some(Refusal::Exists);
+    let is_refused = is_refused_again(&mut set, &route);
     set.add(&host_route(alloc, 2)?)?;
     let base = set.base().number();
     let last = set.last().number();
