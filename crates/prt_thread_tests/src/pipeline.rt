@@ -36,16 +36,16 @@ impl Seen {
     }
 }
 
-/// An end of a connection. Each read returns a block of lines.
+/// An end of a connection. Each read returns a block of lines; the end to write to is never read.
 #[derive(Drop)]
-struct End<'a, H: Wait, S: Alter + Drop, J: Naming> {
+struct End<'a, 'b, H: Wait, S: Alter + Drop, J: Naming> {
     rt: &'a H,
     service: &'a Service<S, J>,
     seen: &'a Seen,
-    blocks: &'a [Vec<u8>],
+    blocks: &'b [Vec<u8>],
 }
 
-impl<'a, H: Wait, S: Alter + Drop, J: Naming> Read for End<'a, H, S, J> {
+impl<'a, 'b, H: Wait, S: Alter + Drop, J: Naming> Read for End<'a, 'b, H, S, J> {
     fn read(&mut self, bytes: &mut [u8]) -> io::Result<usize> {
         self.seen.note(self.rt, self.service);
         let blocks = self.blocks;
@@ -59,7 +59,7 @@ impl<'a, H: Wait, S: Alter + Drop, J: Naming> Read for End<'a, H, S, J> {
     }
 }
 
-impl<'a, H: Wait, S: Alter + Drop, J: Naming> Write for End<'a, H, S, J> {
+impl<'a, 'b, H: Wait, S: Alter + Drop, J: Naming> Write for End<'a, 'b, H, S, J> {
     fn write(&mut self, bytes: &[u8]) -> io::Result<usize> {
         self.seen.note(self.rt, self.service);
         self.seen.replies.lock(self.rt).extend_from_slice(bytes)?;
@@ -112,7 +112,13 @@ fn serve<J: Naming, S: Alter + Drop, H: Wait + Clock + Copy + Drop>(
         held: AtomicBool::new(false),
     };
     let (rt, service, shown) = (&rt, &service, &seen);
-    let end = |blocks| End {
+    let from = End {
+        rt,
+        service,
+        seen: shown,
+        blocks,
+    };
+    let to = End {
         rt,
         service,
         seen: shown,
@@ -123,7 +129,8 @@ fn serve<J: Naming, S: Alter + Drop, H: Wait + Clock + Copy + Drop>(
         service,
         seen: shown,
     };
-    let mut ends = ends_over(alloc, end(blocks), end(&[]), Kind::InTurn)?;
+    let mut ends = ends_over(alloc, from, to, Kind::InTurn)?;
+    let lent = &mut ends;
     let client = SocketAddr::from((Ipv4Addr::LOCALHOST, 0));
     let _end = serve_session(
         rt,
@@ -133,9 +140,9 @@ fn serve<J: Naming, S: Alter + Drop, H: Wait + Clock + Copy + Drop>(
         1,
         client,
         &gate,
-        Some(&*ends.pipeline),
-        &mut ends.lines,
-        &mut ends.replies,
+        Some(&*lent.pipeline),
+        &mut lent.lines,
+        &mut lent.replies,
     );
     looker.leave(rt, service);
     drop(ends);
