@@ -7,12 +7,12 @@ use crossbeam_channel::{Receiver, Sender, bounded};
 use prt_command::Refusal;
 use prt_grace::Domain;
 use prt_publisher::Publisher;
-use prt_serve::{Gate, Job, Kind, work};
+use prt_serve::{Gate, Job, Kind, Served, work};
 use prt_service::{Naming, Service};
 use prt_session::Reply;
 use sqlite::{Alter, Connection};
 use std::alloc::Global;
-use std::io::{self, Write};
+use std::io::{self, Read, Write};
 use std::marker::Brand;
 use std::net::{Ipv4Addr, SocketAddr};
 use std::sync::atomic::{AtomicU64, Ordering};
@@ -113,6 +113,9 @@ fn hand_over<H: Wait + Copy + Drop>(
     Ok(jobs.send(&rt, job).is_ok())
 }
 
+/// Lets a job go that was served. The prover gives up on a closure here.
+fn let_go<R: Read + Drop, W: Write + Drop>(_served: Served<R, W>) {}
+
 /// Serves jobs until the channel is closed. Returns why no looker was had, if none was.
 fn serve_jobs<H: Wait + Clock + Copy + Drop, S: Alter + Drop, J: Naming>(
     rt: &H,
@@ -121,7 +124,7 @@ fn serve_jobs<H: Wait + Clock + Copy + Drop, S: Alter + Drop, J: Naming>(
     jobs: Receiver<Job<&'static [u8], Client<H>>>,
     gate: &Meeting,
 ) -> Option<Refusal> {
-    match work(rt, alloc, service, jobs.iter(rt), gate, |_served| {}) {
+    match work(rt, alloc, service, jobs.iter(rt), gate, let_go) {
         Ok(_) => None,
         Err(reason) => Some(reason),
     }
