@@ -4,19 +4,13 @@ ghost use Rattle.prt_refusals.specs.declared.refusal.Refusal.TheVariants.{NoMemo
 ghost use Rattle.prt_trie.specs.Table.{IsTable};
 
 use crate::cut::Cut;
-use crate::leaf::Leaf;
+use crate::leaf::{LEAST_OF_SPLIT, Leaf, MOST_OF_LEAF};
 use crate::piece::Piece;
 use crate::pieces::Pieces;
 use crate::route_rows::read_all;
 use prt_route::{Addr, Refusal, Route, RouteChoice, RouteEdit, RouteKey, Selector};
 use std::alloc::{AllocError, Global};
 use std::marker::Model;
-
-/// The most routes that get one index. More are split.
-const MOST_OF_LEAF: usize = 512;
-
-/// The fewest routes that stay split. The limits are apart, so that no route that comes and goes moves them all each time.
-const LEAST_OF_SPLIT: usize = 256;
 
 /// Some routes of one table: few of them with one index, and many in pieces `P`.
 #[derive(Drop)]

@@ -1,17 +1,27 @@
 //! Routes with an index of them all.
-ghost use Rattle.std.specs.Prelude.{◌≡◌, IfOk};
-ghost use Rattle.prt_route.specs.Edit.{after_edit};
-ghost use Rattle.prt_trie.specs.Table.{IsTable};
+ghost use Rattle.std.specs.Prelude.{◌≡◌, ◌++◌, ℕ, IfErr, IfOk, OnOk, IsPermutation, option_map};
+ghost use Rattle.std.specs.List.{list_any};
+ghost use Rattle.std.specs.Option.{option_copied};
+ghost use Rattle.prt_refusals.specs.declared.refusal.Refusal.TheVariants.{NoMemory};
+ghost use Rattle.prt_route.specs.Best.{best};
+ghost use Rattle.prt_route.specs.Edit.{after_edit, has_key};
+ghost use Rattle.prt_route.specs.Route.{key_of};
+ghost use Rattle.prt_route.specs.RouteChoice.{chosen_route, is_selected};
+ghost use Rattle.prt_trie.specs.Table.{IsOfOneTable, IsOfTable, IsRising, IsTable};
 
-use crate::cut::Cut;
 use crate::edit::rows_after;
 use crate::index::Index;
-use crate::piece::Piece;
 use crate::prefix_place::{chosen_route, has_key};
 use crate::route_rows::read_all;
 use prt_route::{Addr, Refusal, Route, RouteChoice, RouteEdit, RouteKey, Selector};
 use std::alloc::{AllocError, Global};
 use std::marker::Model;
+
+/// The most routes that get one index. More are split.
+pub(crate) const MOST_OF_LEAF: usize = 512;
+
+/// The fewest routes that stay split. The limits are apart, so that no route that comes and goes moves them all each time.
+pub(crate) const LEAST_OF_SPLIT: usize = 256;
 
 /// The routes by address, length and metric, and their index.
 #[derive(Drop)]
@@ -33,6 +43,23 @@ impl Model for Leaf {
 }
 
 impl Leaf {
+    /// Makes the leaf of the rows, which are in the order of listings.
+    ///
+    /// # Errors
+    ///
+    /// `NoMemory` alone.
+    pub fn from_sorted(alloc: Global, rows: Vec<Route>) -> Result<Leaf, Refusal>
+        requires one_table { IsOfOneTable rows.items }
+        requires rising { IsRising rows.items }
+        ensures value { IfOk result (λ leaf. leaf ≡ rows.items) }
+        ensures reason { IfErr result (λ reason. reason ≡ NoMemory) }
+    {
+        let given = rows.as_slice();
+        read_all(given);
+        let index = Index::build(alloc, given)?;
+        Ok(Leaf { rows, index })
+    }
+
     /// Returns the routes in the order of listings.
     pub fn as_slice(&self) -> &[Route]
         ensures value { result.now ≡ self.now }
@@ -56,49 +83,40 @@ impl Leaf {
     {
         rows_after(*self.rows.allocator(), self.rows.as_slice(), edit)
     }
-}
 
-impl Piece for Leaf {
-    ghost routes = { λ leaf. leaf };
-
-    fn cut() -> Cut {
-        Cut::ThirdOctet
-    }
-
-    fn from_sorted(alloc: Global, rows: Vec<Route>) -> Result<Leaf, Refusal> {
-        let given = rows.as_slice();
-        read_all(given);
-        let index = Index::build(alloc, given)?;
-        Ok(Leaf { rows, index })
-    }
-
-    fn with_change(&self, edit: &RouteEdit) -> Result<Leaf, Refusal> {
-        let rows = self.rows_after(edit)?;
-        Leaf::from_sorted(*rows.allocator(), rows)
-    }
-
-    fn len(&self) -> usize {
-        self.rows.len()
-    }
-
-    fn push_rows(&self, rows: &mut Vec<Route>) -> Result<(), AllocError> {
+    /// Puts the routes behind the rows so far, in any order.
+    pub fn push_rows(&self, rows: &mut Vec<Route>) -> Result<(), AllocError>
+        ensures { OnOk result (IsPermutation (rows.old.items ++ self.now) rows.new.items) }
+    {
         rows.extend_from_slice(self.as_slice())?;
         Ok(())
     }
 
-    fn takes_any(&self, selector: &Selector) -> bool {
+    /// Checks whether the selector takes one of the routes.
+    pub fn takes_any(&self, selector: &Selector) -> bool
+        ensures { result ≡ list_any (is_selected selector.now) self.now }
+    {
         self.rows.iter().any(|row| selector.takes(row))
     }
 
-    fn find(&self, addr: Addr) -> Option<&Route> {
+    /// Finds the best route for the address, if one contains it. It takes no memory.
+    pub fn find(&self, addr: Addr) -> Option<&Route>
+        ensures { (table : ℕ) → IsOfTable table self.now → option_copied result ≡ best self.now table addr }
+    {
         self.index.find(&self.rows, addr)
     }
 
-    fn holds(&self, key: &RouteKey) -> bool {
+    /// Checks whether one of the routes has the key.
+    pub fn holds(&self, key: &RouteKey) -> bool
+        ensures { result ≡ has_key key.now self.now }
+    {
         has_key(self.as_slice(), key)
     }
 
-    fn choose(&self, choice: &RouteChoice) -> Option<RouteKey> {
+    /// Finds the key of the route of lowest metric among those that the choice takes, if it takes one.
+    pub fn choose(&self, choice: &RouteChoice) -> Option<RouteKey>
+        ensures { result ≡ option_map key_of (chosen_route choice.now self.now) }
+    {
         chosen_route(self.as_slice(), choice).map(|route| route.key())
     }
 }

@@ -2,6 +2,9 @@
 #![tactic(auto)]
 
 mod branch;
+mod bucket;
+mod chunk;
+mod chunks;
 mod cut;
 mod directory;
 mod edit;

@@ -1,31 +1,42 @@
 //! Some routes of one table; in a `Table`, those of one first octet or the short ones.
-ghost use Rattle.std.specs.Prelude.{◌≡◌, ℕ, length, IfErr, IfOk, IsPermutation, option_map};
-ghost use Rattle.std.specs.List.{IsDistinct};
+ghost use Rattle.std.specs.Prelude.{◌≡◌, ◌==◌, ℕ, length, IfErr, IfOk, IsPermutation, option_map};
+ghost use Rattle.std.specs.List.{IsDistinct, list_all};
 ghost use Rattle.std.specs.Option.{option_copied};
 ghost use Rattle.prt_refusals.specs.declared.refusal.Refusal.TheVariants.{NoMemory};
 ghost use Rattle.prt_route.specs.Best.{best};
-ghost use Rattle.prt_route.specs.Edit.{has_key};
+ghost use Rattle.prt_route.specs.Edit.{after_edit, has_key};
 ghost use Rattle.prt_route.specs.Route.{key_of};
 ghost use Rattle.prt_route.specs.RouteChoice.{chosen_route};
+ghost use Rattle.prt_trie.specs.Cut.{number_in};
+ghost use Rattle.prt_trie.specs.Pieces.{IsOfTheirTable};
+ghost use Rattle.prt_trie.specs.declared.cut.Cut.TheVariants.{SecondOctet};
 ghost use Rattle.prt_trie.specs.Table.{IsOfOneTable, IsOfTable, IsRising, IsTable, has_same_key};
 
 use crate::branch::Branch;
+use crate::bucket::Bucket;
 use crate::cut::Cut;
-use crate::leaf::Leaf;
+use crate::edit::rows_after;
 use crate::piece::Piece;
 use crate::route_rows::sorted_rows;
-use crate::{Addr, Refusal, Route, RouteChoice, RouteKey};
+use crate::{Addr, Prefix, Refusal, Route, RouteChoice, RouteKey};
 use prt_route::{RouteEdit, Selector};
 use std::alloc::{AllocError, Global};
 use std::marker::Model;
 
 /// The routes of one table by address, length and metric.
 ///
-/// If they are many, they are in pieces by the second octet, and if those are, by the third. Trees before and after an
-/// edit share the pieces that it leaves as they are.
+/// If they are many, they are in pieces by the second octet, if those are, by the third, and if those are too, in chunks of
+/// some rows of one prefix. Trees before and after an edit share the pieces and chunks that it leaves as they are.
 #[derive(Drop)]
 pub struct Tree {
-    branch: Branch<Branch<Leaf>>,
+    division: Division,
+}
+
+/// The routes undivided, if no octet divides them, or else by their octets.
+#[derive(Drop)]
+enum Division {
+    Undivided(Bucket),
+    ByOctets(Branch<Branch<Bucket>>),
 }
 
 impl Model for Tree {
@@ -34,7 +45,43 @@ impl Model for Tree {
 
     ghost Value = { List Row };
 
-    ghost view = { λ tree. tree.branch };
+    ghost use Rattle.prt_trie.specs.Division.{rows_of};
+
+    ghost view = { λ tree. rows_of tree.division };
+}
+
+/// Checks whether the prefix is too short to have the second octet whole. No octet divides such routes.
+fn is_short(prefix: &Prefix) -> bool
+    ensures { result ≡ (number_in SecondOctet prefix.now == 0) }
+{
+    Cut::SecondOctet.number_of(prefix) == 0
+}
+
+/// Checks whether the prefix of each row is short.
+fn are_short(rows: &[Route]) -> bool
+    ensures { result ≡ list_all (λ row. number_in SecondOctet row.prefix == 0) rows.now }
+{
+    rows.iter().all(|row| is_short(&row.prefix))
+}
+
+/// Checks whether routes that no octet divides are so after the edit too.
+fn stays_undivided(edit: &RouteEdit) -> bool {
+    match edit {
+        RouteEdit::Put(route) => is_short(&route.prefix),
+        RouteEdit::Remove(_) | RouteEdit::Flush(_) => true,
+    }
+}
+
+/// Divides the routes after an edit by their octets.
+fn divided(bucket: &Bucket, edit: &RouteEdit) -> Result<Branch<Branch<Bucket>>, Refusal>
+    requires { IsOfTheirTable edit.now bucket.now }
+    ensures value { IfOk result (λ branch. branch ≡ after_edit edit.now bucket.now) }
+    ensures reason { IfErr result (λ reason. reason ≡ NoMemory) }
+{
+    let rows = bucket.rows()?;
+    let alloc = *rows.allocator();
+    let rows = rows_after(alloc, rows.as_slice(), edit)?;
+    Branch::from_sorted(alloc, rows)
 }
 
 impl Tree {
@@ -58,7 +105,10 @@ impl Tree {
     pub fn find(&self, addr: Addr) -> Option<&Route>
         ensures { (table : ℕ) → IsOfTable table self.now → option_copied result ≡ best self.now table addr }
     {
-        self.branch.find(addr)
+        match &self.division {
+            Division::Undivided(bucket) => bucket.find(addr),
+            Division::ByOctets(branch) => branch.find(addr),
+        }
     }
 
     /// Makes a copy of the routes by address, length and metric.
@@ -71,7 +121,10 @@ impl Tree {
         ensures table { IfOk result (λ rows. IsTable rows.items) }
         ensures reason { IfErr result (λ reason. reason ≡ NoMemory) }
     {
-        let rows = self.branch.rows()?;
+        let rows = match &self.division {
+            Division::Undivided(bucket) => bucket.rows()?,
+            Division::ByOctets(branch) => branch.rows()?,
+        };
         Ok(rows)
     }
 
@@ -80,14 +133,20 @@ impl Tree {
         ensures value { result ≡ length self.now }
         ensures table { IsTable self.now }
     {
-        self.branch.count()
+        match &self.division {
+            Division::Undivided(bucket) => bucket.count(),
+            Division::ByOctets(branch) => branch.count(),
+        }
     }
 
     /// Checks whether one of the routes has the key.
     pub fn holds(&self, key: &RouteKey) -> bool
         ensures { result ≡ has_key key.now self.now }
     {
-        self.branch.holds(key)
+        match &self.division {
+            Division::Undivided(bucket) => bucket.holds(key),
+            Division::ByOctets(branch) => branch.holds(key),
+        }
     }
 
     /// Finds the key of the route of lowest metric among those that the choice takes, if it takes one (`ip-route(8)`,
@@ -95,7 +154,10 @@ impl Tree {
     pub fn choose(&self, choice: &RouteChoice) -> Option<RouteKey>
         ensures { result ≡ option_map key_of (chosen_route choice.now self.now) }
     {
-        self.branch.choose(choice)
+        match &self.division {
+            Division::Undivided(bucket) => bucket.choose(choice),
+            Division::ByOctets(branch) => branch.choose(choice),
+        }
     }
 }
 
@@ -107,13 +169,23 @@ impl Piece for Tree {
     }
 
     fn from_sorted(alloc: Global, rows: Vec<Route>) -> Result<Tree, Refusal> {
-        let branch = Branch::from_sorted(alloc, rows)?;
-        Ok(Tree { branch })
+        let division = if are_short(&rows) {
+            Division::Undivided(Bucket::from_sorted(alloc, rows)?)
+        } else {
+            Division::ByOctets(Branch::from_sorted(alloc, rows)?)
+        };
+        Ok(Tree { division })
     }
 
     fn with_change(&self, edit: &RouteEdit) -> Result<Tree, Refusal> {
-        let branch = self.branch.with_change(edit)?;
-        Ok(Tree { branch })
+        let division = match &self.division {
+            Division::Undivided(bucket) if stays_undivided(edit) => {
+                Division::Undivided(bucket.with_change(edit)?)
+            }
+            Division::Undivided(bucket) => Division::ByOctets(divided(bucket, edit)?),
+            Division::ByOctets(branch) => Division::ByOctets(branch.with_change(edit)?),
+        };
+        Ok(Tree { division })
     }
 
     fn len(&self) -> usize {
@@ -121,11 +193,17 @@ impl Piece for Tree {
     }
 
     fn push_rows(&self, rows: &mut Vec<Route>) -> Result<(), AllocError> {
-        self.branch.push_rows(rows)
+        match &self.division {
+            Division::Undivided(bucket) => bucket.push_rows(rows),
+            Division::ByOctets(branch) => branch.push_rows(rows),
+        }
     }
 
     fn takes_any(&self, selector: &Selector) -> bool {
-        self.branch.takes_any(selector)
+        match &self.division {
+            Division::Undivided(bucket) => bucket.takes_any(selector),
+            Division::ByOctets(branch) => branch.takes_any(selector),
+        }
     }
 
     fn find(&self, addr: Addr) -> Option<&Route> {

@@ -4,6 +4,7 @@
 
 mod from_rows;
 mod lines;
+mod many_metrics;
 mod many_tables;
 mod plain_list;
 mod random;

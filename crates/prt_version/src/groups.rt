@@ -12,8 +12,11 @@ use std::alloc::{AllocError, Global};
 use std::marker::Model;
 use std::sync::Arc;
 
-/// How many tables each new group has, except for the last. It is half of the most, so that many edits fit.
-const TABLES_OF_GROUP: usize = 32;
+/// How many tables each new group has, except for the last: half of the most, so that many edits fit.
+const TABLES_OF_GROUP: usize = 64;
+
+/// How many tables a group has at most.
+pub(crate) const MOST_OF_GROUP: usize = 2 * TABLES_OF_GROUP;
 
 /// Tables whose numbers follow each other, which versions share until an edit of one of them.
 #[derive(Drop)]

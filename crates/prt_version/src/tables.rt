@@ -11,7 +11,8 @@ ghost use Rattle.prt_version.specs.Shape.{IsShape, tables_of};
 ghost use Rattle.prt_version.specs.Tables.{AreTables, all_rows, rows_of_table};
 
 use crate::groups::{
-    Group, all_tables, groups_around, groups_of, push_selected_of, split_groups, tables_for,
+    Group, MOST_OF_GROUP, all_tables, groups_around, groups_of, push_selected_of, split_groups,
+    tables_for,
 };
 use crate::shared_table::{
     SharedTable, count_rows, find_table, named_table, push_selected, tables_of_rows, tables_with,
@@ -23,7 +24,7 @@ use std::alloc::{AllocError, Global};
 use std::marker::Model;
 use std::sync::Arc;
 
-/// How many tables are in one list, and at most in one group.
+/// How many tables are in one list at most.
 const MOST_OF_LIST: usize = 64;
 
 /// Few tables in one list, and many in groups, so that an edit of one table copies few of them.
@@ -228,7 +229,7 @@ impl Tables {
         if tables.is_empty() {
             return Ok(None);
         }
-        if tables.len() > MOST_OF_LIST {
+        if tables.len() > MOST_OF_GROUP {
             return Ok(None);
         }
         let len = self.len - count_rows(own) + count_rows(&tables);

@@ -300,11 +300,12 @@ impl Version {
     pub fn share(&self) -> Result<Version, AllocError>
         ensures { IfOk result (λ version. version ≡ self.now) }
     {
-        Ok(Version::of(
-            self.count,
-            Arc::try_clone(&self.rules)?,
-            Arc::try_clone(&self.routes)?,
-        ))
+        Ok(Version {
+            count: self.count,
+            rules: Arc::try_clone(&self.rules)?,
+            routes: Arc::try_clone(&self.routes)?,
+            tried: self.tried,
+        })
     }
 
     /// Returns the changes that commands make of this version, which stays as it is, one after the other, and the version

@@ -42,7 +42,7 @@ fn best_of(rows: &[Route], addr: Addr) -> Option<&Route> {
 }
 
 /// Compares what table and list have, and what they find for addresses near some of the rows.
-fn compare(
+pub fn compare(
     rt: &impl Abort,
     table: &Table,
     rows: &[Route],

@@ -13,14 +13,14 @@ loop-number-init g c = record {
   made = ap (map (λ piece. g.P.Piece.routes (arc_value piece))) c.in_ok-pieces.ensures.items ∙ sym (no_pieces c.args.cut c.args.rows.now);
 }
 
-pub from_sorted-requires-clause-one_table : goal.from_sorted-requires-clause-one_table
-from_sorted-requires-clause-one_table g c =
+pub piece_of-requires-clause-one_table : goal.piece_of-requires-clause-one_table
+piece_of-requires-clause-one_table g c =
     subst IsOfOneTable
     (sym (part_at (λ part. part.items) c.args.cut c.args.rows.now c.loop-number.parts.items c.loop-number.number c.replace-part.result c.index_mut.result.now c.loop-number.invariant.parts c.loop-number-test.true c.replace-part.ensures.value c.index_mut.ensures.value))
     (part_of_one_table c.args.cut c.loop-number.number c.args.rows.now c.requires)
 
-pub from_sorted-requires-clause-rising : goal.from_sorted-requires-clause-rising
-from_sorted-requires-clause-rising g c =
+pub piece_of-requires-clause-rising : goal.piece_of-requires-clause-rising
+piece_of-requires-clause-rising g c =
     subst IsRising
     (sym (part_at (λ part. part.items) c.args.cut c.args.rows.now c.loop-number.parts.items c.loop-number.number c.replace-part.result c.index_mut.result.now c.loop-number.invariant.parts c.loop-number-test.true c.replace-part.ensures.value c.index_mut.ensures.value))
     (part_rises c.args.cut c.loop-number.number c.args.rows.now c.requires)
@@ -28,8 +28,8 @@ from_sorted-requires-clause-rising g c =
 pub loop-number-preserved : goal.loop-number-preserved
 loop-number-preserved g c = record {
   parts = parts_left (λ part. part.items) c.args.cut c.args.rows.now c.loop-number.parts.items c.loop-number.number c.replace-part.new.dest c.loop-number.invariant.parts;
-  made = pieces_step c.args.cut (λ piece. g.P.Piece.routes (arc_value piece)) c.loop-number.pieces.items c.push.new.self.items c.in_ok-new.field-0 c.loop-number.number c.args.rows.now c.in_ok-push.ensures.items c.loop-number.invariant.made
-      (ap g.P.Piece.routes c.in_ok-new.ensures.ok ∙ c.in_ok-from_sorted.ensures.value
+  made = pieces_step c.args.cut (λ piece. g.P.Piece.routes (arc_value piece)) c.loop-number.pieces.items c.push.new.self.items c.in_ok-piece_of.field-0 c.loop-number.number c.args.rows.now c.in_ok-push.ensures.items c.loop-number.invariant.made
+      (c.in_ok-piece_of.ensures.value
       ∙ part_at (λ part. part.items) c.args.cut c.args.rows.now c.loop-number.parts.items c.loop-number.number c.replace-part.result c.index_mut.result.now c.loop-number.invariant.parts c.loop-number-test.true c.replace-part.ensures.value c.index_mut.ensures.value);
 }
 

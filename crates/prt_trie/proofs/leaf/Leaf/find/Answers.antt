@@ -1,7 +1,7 @@
 use Rattle.std.proofs.Common.{ap, sym, ◌∙◌}
 use Rattle.prt_trie.specs.Heaviest.{best_for}
 use Rattle.prt_trie.proofs.Finds.{best_of_table}
-use Rattle.prt_trie.proofs.leaf.LeafPiece.find.Goals as goal
+use Rattle.prt_trie.proofs.leaf.Leaf.find.Goals as goal
 
 pub find-requires : goal.find-requires
 find-requires c = rw c.deref.ensures.value c.self.invariant
