@@ -167,8 +167,9 @@ void prt_version_release(prt_version *version);
 /* Compiles what happens to packets with the source, interface and mark of `packet`, for every destination. That of `packet`
  * doesn't matter. The compiled table stays right for this version, and needs the holder `version` no more.
  *
- * It takes some 50 ms for 100,000 routes, and at most 12 bytes for each route and rule, 60 for each outcome, and 350 KB;
- * while it is compiled, some 160 bytes for each route and rule.
+ * It takes some 50 ms for 100,000 routes. The compiled table has at most 12 bytes for each route and rule, 60 for each
+ * outcome, and 350 KB. If all first octets have many routes, the last is 1.2 MB. While it is compiled, it takes some 160
+ * bytes for each route and rule.
  *
  * PRT_DONE         `fib` holds the compiled table; what it held before is freed.
  * PRT_BAD_NAME     `interface` is no name.

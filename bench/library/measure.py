@@ -2,7 +2,7 @@
 
 usage: measure.py LOOKUPS PROGRAM..
 
-LOOKUPS is what bench/lookups/run prints. Each program is run with 1,000 routes and with 100,000; side_by_side.h says what it
+LOOKUPS is what bench/lookups/run prints. Each program is run with 1,000, 10,000 and 100,000 routes; side_by_side.h says what it
 prints. Rates are the most of its turns, as the times of bench/lookups are the least; what changes cost is of the middle turn.
 """
 
@@ -12,7 +12,7 @@ import subprocess
 import sys
 
 LOOKUPS, *PROGRAMS = sys.argv[1:]
-ROUTES = (1_000, 100_000)
+ROUTES = (1_000, 10_000, 100_000)
 THREADS = (1, 2, 4)
 
 

@@ -17,7 +17,7 @@ use Rattle.prt_fib.specs.declared.piece.Piece.{Piece}
 pub record IsPiece (base : ℕ) (piece : Piece) : Type 0 where
   pub starts : AreStartsFrom base piece.starts.items
   pub same : length piece.numbers.items ≡ length piece.starts.items
-  pub blocks : AreBlocks base piece.starts.items piece.directory
+  pub blocks : AreBlocks piece.size base piece.starts.items piece.directory.items
 
 -- outcomes of the packet change at starts alone, and each start has the number of the outcome there
 pub record AreTold (state : State) (packet : Packet) (outcomes : List Outcome) (base : ℕ) (starts numbers : List ℕ) : Type 0 where

@@ -53,7 +53,8 @@ fn piece_of(
     let high = count_below(starts, u64::from(base) + 16_777_216);
     let own_starts = Vec::from_slice(alloc, &starts[low..high])?;
     let own_numbers = Vec::from_slice(alloc, &numbers[low..high])?;
-    Ok(Arc::new(alloc, Piece::of(own_starts, own_numbers, base))?)
+    let piece = Piece::of(alloc, own_starts, own_numbers, base)?;
+    Ok(Arc::new(alloc, piece)?)
 }
 
 /// Makes the pieces, each of the starts of one first octet.

@@ -188,5 +188,6 @@ pub(crate) fn piece_after(
         &mut made.numbers,
         outcomes,
     )?;
-    Ok(Piece::of(made.starts, made.numbers, base))
+    let after = Piece::of(alloc, made.starts, made.numbers, base)?;
+    Ok(after)
 }

@@ -3,7 +3,8 @@ ghost use Rattle.std.specs.Prelude.{◌≡◌, ◌/◌, ◌*◌, ◌≤◌, IfOk
 ghost use Rattle.prt_fib.specs.Pieces.{IsPiece};
 ghost use Rattle.prt_fib.specs.Places.{AreStartsFrom, IsNumberAt};
 
-use crate::directory::{directory_of, place_between};
+use crate::directory::{BlockSize, directory_of, place_between};
+use std::alloc::{AllocError, Global};
 
 /// The outcomes for the addresses of one first octet.
 #[derive(Drop)]
@@ -12,26 +13,34 @@ pub(crate) struct Piece {
     pub(crate) starts: Vec<u32>,
     /// The number of the outcome from each of them on.
     pub(crate) numbers: Vec<u16>,
-    /// Between which places of starts the last one is that isn't after an address, by the address's second octet.
-    pub(crate) directory: [u32; 257],
+    /// How large the blocks of the directory are.
+    pub(crate) size: BlockSize,
+    /// Between which places of starts the last one is that isn't after an address, by the address's block.
+    pub(crate) directory: Vec<u32>,
 }
 
 impl Piece {
     /// Makes the piece of these starts and numbers.
-    pub(crate) fn of(starts: Vec<u32>, numbers: Vec<u16>, base: u32) -> Piece
+    pub(crate) fn of(
+        alloc: Global,
+        starts: Vec<u32>,
+        numbers: Vec<u16>,
+        base: u32,
+    ) -> Result<Piece, AllocError>
         requires starts { AreStartsFrom base starts.items }
-        requires base { base ≤ 4278190080 }
         requires same { length numbers.items ≡ length starts.items }
-        ensures piece { IsPiece base result }
-        ensures starts { result.starts.items ≡ starts.items }
-        ensures numbers { result.numbers.items ≡ numbers.items }
+        ensures piece { IfOk result (IsPiece base) }
+        ensures starts { IfOk result (λ piece. piece.starts.items ≡ starts.items) }
+        ensures numbers { IfOk result (λ piece. piece.numbers.items ≡ numbers.items) }
     {
-        let directory = directory_of(&starts, base);
-        Piece {
+        let size = BlockSize::for_starts(starts.len());
+        let directory = directory_of(alloc, &starts, base, size)?;
+        Ok(Piece {
             starts,
             numbers,
+            size,
             directory,
-        }
+        })
     }
 
     /// Finds the number of the outcome for an address of the piece.
@@ -39,7 +48,7 @@ impl Piece {
         requires { IsPiece (addr / 16777216 * 16777216) self.now }
         ensures { IsNumberAt self.now.starts.items self.now.numbers.items addr result }
     {
-        let block = (addr >> 16) as usize % 256;
+        let block = self.size.block_of(addr);
         let low = self.directory[block];
         let high = self.directory[block + 1];
         let place = place_between(self.starts.as_slice(), low, high, addr);

@@ -82,8 +82,8 @@ impl Fib {
     /// matter.
     ///
     /// It looks a packet up in the version at the first address of each prefix and after the last one. The table shares
-    /// what the version has, and takes at most 12 bytes for each rule and route, 60 for each outcome and 350 KB more. While
-    /// it is compiled, it takes some 160 bytes for each rule and route.
+    /// what the version has, and takes at most 12 bytes for each rule and route, 60 for each outcome and 350 KB more, or
+    /// 1.2 MB if each first octet has many routes. While it is compiled, it takes some 160 bytes for each rule and route.
     ///
     /// # Errors
     ///

@@ -45,5 +45,5 @@ returns-clause-told c = λ state changed told.
     let tells : AreTold c.args.next.now c.args.packet.now new base starts new_numbers =
     renumbered state c.args.next.now c.args.packet.now prefix changed old new again.keeps base starts numbers new_numbers from to (divided.tells state c.args.packet.now old told)
     (subst (IsDivided base starts) first_is divided.at_first) (subst (IsDivided base starts) end_is divided.at_end) is_from is_to again in
-    subst (λ s. AreTold c.args.next.now c.args.packet.now new base s c.of.result.numbers.items) (sym c.of.ensures.starts)
-    (subst (AreTold c.args.next.now c.args.packet.now new base starts) (sym c.of.ensures.numbers) tells)
+    subst (λ s. AreTold c.args.next.now c.args.packet.now new base s c.in_ok-after.after.numbers.items) (sym c.in_ok-after.ensures.starts)
+    (subst (AreTold c.args.next.now c.args.packet.now new base starts) (sym c.in_ok-after.ensures.numbers) tells)
