@@ -35,15 +35,15 @@ use Rattle.prt_questions.proofs.Alone.{RunsRound, runs_alone, runs_nothing_alone
 -- ---- how a run ends
 
 module _ {D M S : Type 0} (g : Ghosts S) (opens : Wanted → M → M → List ℕ → Held S → Type 0) (closes : M → M → Held S → Type 0) (old new : D) (machine : D → M) where
-  pub exit_alone : (refuses : Wanted → M → M → List ℕ → Type 0) {File : Type 0} (bytes : File → Option (List ℕ)) (from : Sources) (asked : Invocation) (streams : Streams) (status : ℕ)
-      → Runs bytes (RunsRound g (opens Any) closes old new machine) asked streams status ⊎ RunsNothing (λ (old new : D) path reason. LeavesNoneOpen (opens Any) (refuses Any) closes g reason (machine old) (machine new) path) old new asked streams.output_before streams.output_after status
-      → LeavesDatabases asked old new → RunsPrt g opens refuses closes (machine old) (machine new) bytes from asked streams status
-  exit_alone refuses bytes from asked streams status (inl ran) left = runs (runs_alone g (opens Any) closes old new machine bytes asked streams status ran) (λ none. ap machine (left none))
-  exit_alone refuses bytes from asked streams status (inr nothing) left =
+  pub exit_alone : (refuses : Wanted → M → M → List ℕ → Type 0) {File : Type 0} (opened : Word → File → Type 0) (bytes : File → Option (List ℕ)) (from : Sources) (asked : Invocation) (streams : Streams) (status : ℕ)
+      → Runs opened bytes (RunsRound g (opens Any) closes old new machine) asked streams status ⊎ RunsNothing (λ (old new : D) path reason. LeavesNoneOpen (opens Any) (refuses Any) closes g reason (machine old) (machine new) path) old new asked streams.output_before streams.output_after status
+      → LeavesDatabases asked old new → RunsPrt g opens refuses closes (machine old) (machine new) opened bytes from asked streams status
+  exit_alone refuses opened bytes from asked streams status (inl ran) left = runs (runs_alone g (opens Any) closes old new machine opened bytes asked streams status ran) (λ none. ap machine (left none))
+  exit_alone refuses opened bytes from asked streams status (inr nothing) left =
       go (runs_nothing_alone g (opens Any) closes old new machine (λ old new path reason. LeavesNoneOpen (opens Any) (refuses Any) closes g reason old new path) asked streams.output_before streams.output_after status nothing)
     where
       go : RunsNothing (λ (old new : M) path reason. LeavesNoneOpen (opens Any) (refuses Any) closes g reason old new path) (machine old) (machine new) asked streams.output_before streams.output_after status
-          → RunsPrt g opens refuses closes (machine old) (machine new) bytes from asked streams status
+          → RunsPrt g opens refuses closes (machine old) (machine new) opened bytes from asked streams status
       go (inl told) = tells told
       go (inr (inl misused)) = is_misused misused
       go (inr (inr stopped)) = is_stopped stopped

@@ -59,21 +59,21 @@ module _ {M S : Type 0} (g : Ghosts S) (opens : Wanted → M → M → List ℕ 
     pub at_most : IsDoneAtMost g opens refuses closes from old new writer0 writer question
 
   -- What becomes of a run that is asked for, with its exit status.
-  pub data RunsPrt {File : Type 0} (bytes : File → Option (List ℕ)) (from : Sources) (asked : Invocation) (streams : Streams) (status : ℕ) : Type 0 where
+  pub data RunsPrt {File : Type 0} (opened : Word → File → Type 0) (bytes : File → Option (List ℕ)) (from : Sources) (asked : Invocation) (streams : Streams) (status : ℕ) : Type 0 where
     -- a script, a check or a replay was run, and no database was touched if none was asked for
-    runs : Runs bytes (RunsOverMachine g (opens Any) closes old new) asked streams status → LeavesDatabases asked old new → RunsPrt bytes from asked streams status
+    runs : Runs opened bytes (RunsOverMachine g (opens Any) closes old new) asked streams status → LeavesDatabases asked old new → RunsPrt opened bytes from asked streams status
     -- help or the version was asked for
-    tells : Tells old new asked status → RunsPrt bytes from asked streams status
+    tells : Tells old new asked status → RunsPrt opened bytes from asked streams status
     -- the words are bad
-    is_misused : IsMisused old new asked streams.output_before streams.output_after status → RunsPrt bytes from asked streams status
+    is_misused : IsMisused old new asked streams.output_before streams.output_after status → RunsPrt opened bytes from asked streams status
     -- memory was refused, or a file or a database could not be opened
-    is_stopped : IsStopped (λ old new path reason. LeavesNoneOpen (opens Any) (refuses Any) closes g reason old new path) old new asked streams.output_before streams.output_after status → RunsPrt bytes from asked streams status
+    is_stopped : IsStopped (λ old new path reason. LeavesNoneOpen (opens Any) (refuses Any) closes g reason old new path) old new asked streams.output_before streams.output_after status → RunsPrt opened bytes from asked streams status
     -- the sessions were served that the words ask for
-    serves : (words : List Word) → asked ≡ serve words → Serves words status → RunsPrt bytes from asked streams status
+    serves : (words : List Word) → asked ≡ serve words → Serves words status → RunsPrt opened bytes from asked streams status
     -- a server was to run the script that the words name, and no database was touched
-    submits : (script : Submission) → asked ≡ submit script → new ≡ old → Submits script from streams.output_before streams.output_after status → RunsPrt bytes from asked streams status
+    submits : (script : Submission) → asked ≡ submit script → new ≡ old → Submits script from streams.output_before streams.output_after status → RunsPrt opened bytes from asked streams status
     -- the question was answered that the words ask
-    answers : (words : List Word) → asked ≡ ask words → Asks words from streams.output_before streams.output_after status → RunsPrt bytes from asked streams status
+    answers : (words : List Word) → asked ≡ ask words → Asks words from streams.output_before streams.output_after status → RunsPrt opened bytes from asked streams status
 
 -- ---- an opening after it
 

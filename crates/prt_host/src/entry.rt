@@ -45,7 +45,7 @@ pub fn run<
 where
     N::Stream: Send,
     N::Door: Sync,
-    ensures { RunsPrt S.Store M.opens M.refuses M.closes databases.old.machine databases.new.machine F.Opened.remaining
+    ensures { RunsPrt S.Store M.opens M.refuses M.closes databases.old.machine databases.new.machine (F.opens databases.old.files.now) F.Opened.remaining
         (sources_of F.opens F.Opened.remaining databases.old.files.now N.reaches N.Stream.remaining databases.old.rt (⟦<Noting<R> as Read>⟧.remaining input.old)) (invocation (arguments words.now))
         (streams_of (⟦<Noting<R> as Read>⟧.remaining input.old) (⟦<Noting<W> as Write>⟧.contents output.old) (⟦<Noting<W> as Write>⟧.contents output.new)) result }
 {

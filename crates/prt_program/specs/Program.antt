@@ -98,17 +98,17 @@ pub record RunsReplay (streams : Streams) (status : ℕ) : Type 0 where
   pub run : ReplayIs streams.input streams.output_before streams.output_after end
   pub status_is : status ≡ exit_status end
 
--- a run over a file: the input, or an open file, of which nothing is known
-abbrev pub RunsOver : {File : Type 0} → (File → Option (List ℕ)) → (Streams → ℕ → Type 0) → Option Word → Streams → ℕ → Type 0
-RunsOver bytes Run None streams status = Run streams status
-RunsOver {File} bytes Run (Some path) streams status = (file : File) × Run (record streams { input = bytes file }) status
+-- a run over a file: the input, or the file that was opened at a path
+abbrev pub RunsOver : {File : Type 0} → (opens : Word → File → Type 0) → (File → Option (List ℕ)) → (Streams → ℕ → Type 0) → Option Word → Streams → ℕ → Type 0
+RunsOver opens bytes Run None streams status = Run streams status
+RunsOver {File} opens bytes Run (Some path) streams status = (file : File) × opens path file × Run (record streams { input = bytes file }) status
 
 -- what the words ask for was run
-abbrev pub Runs : {File : Type 0} → (File → Option (List ℕ)) → (Word → SessionFact) → Invocation → Streams → ℕ → Type 0
-Runs bytes RunAt (batch script) streams status = RunsOver bytes (RunsBatch RunAt script.database script.mode) script.file streams status
-Runs bytes RunAt (check file) streams status = RunsOver bytes RunsCheck file streams status
-Runs bytes RunAt (replay file) streams status = RunsOver bytes RunsReplay file streams status
-Runs bytes RunAt asked streams status = ⊥
+abbrev pub Runs : {File : Type 0} → (opens : Word → File → Type 0) → (File → Option (List ℕ)) → (Word → SessionFact) → Invocation → Streams → ℕ → Type 0
+Runs opens bytes RunAt (batch script) streams status = RunsOver opens bytes (RunsBatch RunAt script.database script.mode) script.file streams status
+Runs opens bytes RunAt (check file) streams status = RunsOver opens bytes RunsCheck file streams status
+Runs opens bytes RunAt (replay file) streams status = RunsOver opens bytes RunsReplay file streams status
+Runs opens bytes RunAt asked streams status = ⊥
 
 -- The words ask for help or for the version. No database was touched.
 abbrev pub Tells : {D : Type 0} → D → D → Invocation → ℕ → Type 0

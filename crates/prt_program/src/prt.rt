@@ -187,7 +187,8 @@ fn open_file<F: ReadFiles, E: Write + Drop, K: Clock + Drop>(
     path: &str,
     messages: &mut Messages<'_, E, K>,
 ) -> Result<F::Opened, Fault>
-    ensures { IfErr result (λ fault. fault ≡ Opening ReadFault) }
+    ensures opens { IfOk result (F.opens files.now path.now) }
+    ensures fault { IfErr result (λ fault. fault ≡ Opening ReadFault) }
 {
     match files.open_to_read(path) {
         Ok(file) => Ok(file),
@@ -205,7 +206,7 @@ fn run_script_of<'a, H: Host, R: Read>(
     input: &mut R,
     messages: &mut Messages<'a, H::Errors, H::Clock>,
 ) -> Result<u8, Fault>
-    ensures run { IfOk result (RunsOver H.Files.Opened.remaining (RunsBatch (RunsAt H.Databases.holds H.Databases.opens H.Databases.closed H.Databases.leaves H.Databases.Opened.stands H.Databases.Opened.keeps H.Databases.Opened.may around.old.databases.now around.new.databases.now)
+    ensures run { IfOk result (RunsOver (H.Files.opens around.old.files.now) H.Files.Opened.remaining (RunsBatch (RunsAt H.Databases.holds H.Databases.opens H.Databases.closed H.Databases.leaves H.Databases.Opened.stands H.Databases.Opened.keeps H.Databases.Opened.may around.old.databases.now around.new.databases.now)
         (option_map (λ path. path.now) batch.entry.database) batch.entry.mode) (option_map (λ path. path.now) batch.entry.file) (streams_of (R.remaining input.old) (H.Output.contents around.old.output.now) (H.Output.contents around.new.output.now))) }
     ensures unread { LeavesInputFor (option_map (λ path. path.now) batch.entry.file) (R.remaining input.old) (R.remaining input.new) }
     ensures fault { IfErr result (IsOpening (IsScriptFault (option_map (λ path. path.now) batch.entry.database))) }
@@ -240,7 +241,7 @@ fn check_of<'a, H: Host, R: Read>(
     input: &mut R,
     messages: &mut Messages<'a, H::Errors, H::Clock>,
 ) -> Result<u8, Fault>
-    ensures run { IfOk result (RunsOver H.Files.Opened.remaining RunsCheck (option_map (λ path. path.now) path.entry)
+    ensures run { IfOk result (RunsOver (H.Files.opens around.old.files.now) H.Files.Opened.remaining RunsCheck (option_map (λ path. path.now) path.entry)
         (streams_of (R.remaining input.old) (H.Output.contents around.old.output.now) (H.Output.contents around.new.output.now))) }
     ensures unread { LeavesInputFor (option_map (λ path. path.now) path.entry) (R.remaining input.old) (R.remaining input.new) }
     ensures fault { IfErr result (IsOpening (IsScriptFault None)) }
@@ -269,7 +270,7 @@ fn replay_of<'a, H: Host, R: Read>(
     input: &mut R,
     messages: &mut Messages<'a, H::Errors, H::Clock>,
 ) -> Result<u8, Fault>
-    ensures run { IfOk result (RunsOver H.Files.Opened.remaining RunsReplay (option_map (λ path. path.now) path.entry)
+    ensures run { IfOk result (RunsOver (H.Files.opens around.old.files.now) H.Files.Opened.remaining RunsReplay (option_map (λ path. path.now) path.entry)
         (streams_of (R.remaining input.old) (H.Output.contents around.old.output.now) (H.Output.contents around.new.output.now))) }
     ensures unread { LeavesInputFor (option_map (λ path. path.now) path.entry) (R.remaining input.old) (R.remaining input.new) }
     ensures fault { IfErr result (λ fault. fault ≡ Opening ReadFault) }
@@ -297,7 +298,7 @@ fn run_words<'a, H: Host, R: Read>(
     input: &mut R,
     messages: &mut Messages<'a, H::Errors, H::Clock>,
 ) -> Result<Next<'a>, Fault>
-    ensures run { IfOk result (IfExit (Runs H.Files.Opened.remaining (RunsAt H.Databases.holds H.Databases.opens H.Databases.closed H.Databases.leaves H.Databases.Opened.stands H.Databases.Opened.keeps H.Databases.Opened.may around.old.databases.now around.new.databases.now)
+    ensures run { IfOk result (IfExit (Runs (H.Files.opens around.old.files.now) H.Files.Opened.remaining (RunsAt H.Databases.holds H.Databases.opens H.Databases.closed H.Databases.leaves H.Databases.Opened.stands H.Databases.Opened.keeps H.Databases.Opened.may around.old.databases.now around.new.databases.now)
         (invocation (arguments words.now)) (streams_of (R.remaining input.old) (H.Output.contents around.old.output.now) (H.Output.contents around.new.output.now)))) }
     ensures serve { IfOk result (IfServe (λ serving. (invocation (arguments words.now) ≡ serve (arguments words.now)) × IsServing serving × IsServiceIn (arguments words.now) serving × (H.Output.contents around.new.output.now ≡ H.Output.contents around.old.output.now))) }
     ensures submit { IfOk result (IfSubmit (λ submitting. IsAskedFor (arguments words.now) (invocation (arguments words.now)) (Submit submitting) × (H.Output.contents around.new.output.now ≡ H.Output.contents around.old.output.now))) }
@@ -359,7 +360,7 @@ pub fn program<
     output: &mut W,
     errors: &mut E,
 ) -> Next<'a>
-    ensures run { IfExit (λ status. Runs F.Opened.remaining (RunsAt D.holds D.opens D.closed D.leaves D.Opened.stands D.Opened.keeps D.Opened.may databases.old databases.new)
+    ensures run { IfExit (λ status. Runs (F.opens files.now) F.Opened.remaining (RunsAt D.holds D.opens D.closed D.leaves D.Opened.stands D.Opened.keeps D.Opened.may databases.old databases.new)
         (invocation (arguments words.now)) (streams_of (R.remaining input.old) (W.contents output.old) (W.contents output.new)) status
         ⊎ RunsNothing D.refuses databases.old databases.new (invocation (arguments words.now)) (W.contents output.old) (W.contents output.new) status) result }
     ensures serve { IfServe (λ serving. (invocation (arguments words.now) ≡ serve (arguments words.now)) × IsServing serving × IsServiceIn (arguments words.now) serving × (W.contents output.new ≡ W.contents output.old)) result }

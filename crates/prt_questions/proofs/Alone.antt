@@ -43,16 +43,16 @@ module _ {D M S : Type 0} (g : Ghosts S) (opens : M → M → List ℕ → Held 
   batch_alone None mode streams status run = run
   batch_alone (Some path) mode streams status run = at_alone path mode streams status run
 
-  over_alone : {File : Type 0} (bytes : File → Option (List ℕ)) (database : Option Word) (mode : Mode) (file : Option Word) (streams : Streams) (status : ℕ)
-      → RunsOver bytes (RunsBatch RunsRound database mode) file streams status → RunsOver bytes (RunsBatch Alone database mode) file streams status
-  over_alone bytes database mode None streams status run = batch_alone database mode streams status run
-  over_alone bytes database mode (Some path) streams status run = (run.0, batch_alone database mode (record streams { input = bytes run.0 }) status run.1)
+  over_alone : {File : Type 0} (opened : Word → File → Type 0) (bytes : File → Option (List ℕ)) (database : Option Word) (mode : Mode) (file : Option Word) (streams : Streams) (status : ℕ)
+      → RunsOver opened bytes (RunsBatch RunsRound database mode) file streams status → RunsOver opened bytes (RunsBatch Alone database mode) file streams status
+  over_alone opened bytes database mode None streams status run = batch_alone database mode streams status run
+  over_alone opened bytes database mode (Some path) streams status run = (run.0, run.1, batch_alone database mode (record streams { input = bytes run.0 }) status run.2)
 
-  pub runs_alone : {File : Type 0} (bytes : File → Option (List ℕ)) (asked : Invocation) (streams : Streams) (status : ℕ) → Runs bytes RunsRound asked streams status → Runs bytes Alone asked streams status
-  runs_alone bytes (batch script) streams status run = over_alone bytes script.database script.mode script.file streams status run
-  runs_alone bytes (check file) streams status run = run
-  runs_alone bytes (replay file) streams status run = run
-  runs_alone bytes _ streams status run = absurd run
+  pub runs_alone : {File : Type 0} (opened : Word → File → Type 0) (bytes : File → Option (List ℕ)) (asked : Invocation) (streams : Streams) (status : ℕ) → Runs opened bytes RunsRound asked streams status → Runs opened bytes Alone asked streams status
+  runs_alone opened bytes (batch script) streams status run = over_alone opened bytes script.database script.mode script.file streams status run
+  runs_alone opened bytes (check file) streams status run = run
+  runs_alone opened bytes (replay file) streams status run = run
+  runs_alone opened bytes _ streams status run = absurd run
 
   nothing_alone : (refuses : M → M → Word → Refusal → Type 0) (path : Option Word) → IsUntouched (λ (old new : D) path reason. refuses (machine old) (machine new) path reason) path old new → IsUntouched refuses path (machine old) (machine new)
   nothing_alone refuses None same = ap machine same

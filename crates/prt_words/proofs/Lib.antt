@@ -6,6 +6,7 @@ pub mod LostWords
 pub mod ParsedWords
 pub mod Readings
 pub mod Operands
+pub mod Places
 pub mod Walks
 pub mod WordClasses
 pub mod WordsRead

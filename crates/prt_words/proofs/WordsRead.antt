@@ -11,7 +11,7 @@ use Rattle.clap.specs.declared.parser.matches.ArgMatches.TheViews.{out-ArgMatche
 use Rattle.clap.specs.Walk.{Row}
 use Rattle.prt_addr.specs.Word.{Word}
 use Rattle.prt_words.specs.CommandLine.{command_line}
-use Rattle.prt_words.specs.Tasks.{asks_question, IsConflict, IsModeOf, IsQuestionOf, IsAskedFor, IsTaskOf, named_database, named_server, subcommand_name, flag_text, text_of_flag}
+use Rattle.prt_words.specs.Tasks.{asks_question, IsConflict, IsModeOf, IsQuestionOf, IsAskedFor, IsTaskOf, IsUnfit, named_database, named_server, subcommand_name, flag_text, text_of_flag}
 use Rattle.std.specs.List.{list_all}
 use Rattle.clap.specs.Kinds.{HasKind, IsAmong, Kinds}
 use Rattle.clap.specs.Words.{Text, kind_of}
@@ -21,7 +21,9 @@ use Rattle.clap.specs.declared.error.kind.ErrorKind.TheVariants.{DisplayHelp, Di
 use Rattle.prt_words.specs.Faults.{FaultOf, IsHelpOrBad, IsStatusOf, IsWordsFault, words_status}
 use Rattle.prt_words.specs.Invocation.{Invocation, anywhere, ask, asked_by, batch, check, replay, serve, submit, Submission, has_help, help, help_on, nothing_given, version, invocation, is_help, is_question, is_version, usage_error, file_of}
 use Rattle.prt_words.specs.Invocation as subcommand
+use Rattle.prt_words.specs.Places.{names_place}
 use Rattle.prt_words.specs.Read.{IsFoundIn, IsReadFrom}
+use Rattle.prt_refusals.specs.declared.refusal.Refusal.TheVariants.{NoMemory}
 use Rattle.prt_words.specs.declared.task.Mode.{Mode}
 use Rattle.prt_words.specs.declared.task.Mode.TheVariants.{InTurn, Together}
 use Rattle.prt_words.specs.declared.fault.Fault.{Fault}
@@ -213,13 +215,22 @@ task_is words usage_error kinds found (Replay path) (inr conflict) none other no
 
 -- a script that can be executed in no way, or not by a server at this place
 abbrev IsRefused : Invocation → Type 0
-IsRefused asked = (asked ≡ usage_error) ⊎ ((script : Submission) × (asked ≡ submit script))
+IsRefused asked = (asked ≡ usage_error) ⊎ ((script : Submission) × (asked ≡ submit script) × (names_place script.server ≡ false))
+
+-- a script that a server can execute has no place
+no_place : (script : Submission) (found : Option (Text × List Row)) (mode : Mode) (server : Text) → Some mode ≡ Some Together → named_database found ≡ None → named_server found ≡ Some script.server → named_server found ≡ Some server
+    → IsUnfit mode (named_database found) server → names_place script.server ≡ false
+no_place script found mode server together alone named has (inl apart) = absurd (apart (some_mode Together mode (sym together)))
+no_place script found mode server together alone named has (inr (inl other)) = absurd (other alone)
+no_place script found mode server together alone named has (inr (inr nowhere)) = ap names_place (some_word server script.server (sym has ∙ named)) ∙ nowhere
 
 conflict_is : (asked : Invocation) (kinds : Kinds) (found : Option (Text × List Row)) → Agrees asked kinds found → kinds ≡ [] → (subcommand_name found ≡ Some (codes "serve") → ⊥) → asks_question (subcommand_name found) ≡ false → IsConflict found
     → IsRefused asked
 conflict_is (batch script) kinds found agrees none other no_ask (_, _, inl mode) = absurd (no_mode script.mode (sym (mode_is (Some script.mode) None found agrees.4 mode)))
-conflict_is (batch script) kinds found agrees none other no_ask (_, _, inr server) = absurd (no_word (named_server found) server.0 server.1 agrees.6)
-conflict_is (submit script) kinds found agrees none other no_ask is = inr (script, refl)
+conflict_is (batch script) kinds found agrees none other no_ask (_, _, inr (mode, server, has, named, unfit)) = absurd (no_word (named_server found) server named agrees.6)
+conflict_is (submit script) kinds found agrees none other no_ask (_, _, inl mode) = absurd (no_mode Together (sym (mode_is (Some Together) None found agrees.4 mode)))
+conflict_is (submit script) kinds found agrees none other no_ask (_, _, inr (mode, server, has, named, unfit)) =
+    inr (script, refl, no_place script found mode server (mode_is (Some Together) (Some mode) found agrees.4 has) agrees.3 agrees.6 named unfit)
 conflict_is (check file) kinds found agrees none other no_ask is = absurd (is.0 agrees.1)
 conflict_is (replay file) kinds found agrees none other no_ask is = absurd (is.1 agrees.1)
 conflict_is (serve own) kinds found agrees none other no_ask is = absurd (other agrees.0)
@@ -418,12 +429,36 @@ bad_words own (Words error) is = (inr is, inr is)
 bad_words own (Opening reason) is = (is, is)
 bad_words own Listener is = absurd is
 
-refused_words : (script : Submission) (fault : Fault) → IsWordsFault usage_error fault → IsWordsFault (submit script) fault
-refused_words script (Words error) is = is
-refused_words script (Opening reason) is = is
-refused_words script Listener is = absurd is
+refused_words : (script : Submission) (fault : Fault) → names_place script.server ≡ false → IsWordsFault usage_error fault → IsWordsFault (submit script) fault
+refused_words script (Words error) nowhere is = (is, nowhere)
+refused_words script (Opening reason) nowhere is = is
+refused_words script Listener nowhere is = absurd is
 
 pub conflict_fault : {T : Type 0} (asked : Invocation) (result : Result T Fault) → IfErr result (λ fault. IsRefused asked) → IfErr result (IsWordsFault usage_error) → IfErr result (IsWordsFault asked)
 conflict_fault asked (Ok task) same is = tt
 conflict_fault asked (Err fault) (inl same) is = subst (λ a. IsWordsFault a fault) (sym same) is
-conflict_fault asked (Err fault) (inr same) is = subst (λ a. IsWordsFault a fault) (sym same.1) (refused_words same.0 fault is)
+conflict_fault asked (Err fault) (inr same) is = subst (λ a. IsWordsFault a fault) (sym same.1) (refused_words same.0 fault same.2 is)
+
+-- ---- words of `serve`
+
+-- a parse that takes the words fails only for want of memory
+pub refused_parse : (words : List Text) (error : Error) (fault : Fault) → HasKind (fault_of command_line words) error → FaultOf error fault → fault_of command_line words ≡ [] → fault ≡ Opening NoMemory
+refused_parse words error fault has (inl memory) none = memory.1
+refused_parse words error fault (inl memory) (inr other) none = absurd (other.0 memory)
+refused_parse words error fault (inr among) (inr other) none = absurd (subst (IsAmong (kind_of error)) none among)
+
+-- they ask no question
+pub not_asked : (words : List Text) (m : ArgMatches) → subcommand_rows_of m ≡ subcommand_of command_line words → fault_of command_line words ≡ [] → asks_question (subcommand_name_of m) ≡ true
+    → invocation (drop 1 words) ≡ serve (drop 1 words) → ⊥
+not_asked words m found none asks is = let other : ask (drop 1 words) ≡ serve (drop 1 words) = sym (asked_is words m found none asks) ∙ is in absurd cc
+
+-- and a parse finds `serve`
+pub is_served : (words : List Text) (m : ArgMatches) → subcommand_rows_of m ≡ subcommand_of command_line words → invocation (drop 1 words) ≡ serve (drop 1 words) → subcommand_name_of m ≡ Some (codes "serve")
+is_served words m found is =
+    name_of_found (out-ArgMatches m).subcommand ∙ ap subcommand_name found
+    ∙ (subst (λ asked. Agrees asked (fault_of command_line words) (subcommand_of command_line words)) is (words_agree words)).0
+
+-- what holds of each fault
+pub any_fault : {T : Type 0} (result : Result T Fault) (P : Fault → Type 0) → ((fault : Fault) → P fault) → IfErr result P
+any_fault (Ok task) P each = tt
+any_fault (Err fault) P each = each fault

@@ -1,11 +1,12 @@
 -- Which tables and which file the words of `impact`, `assert` and `unused` name, and what the flags of these and of `diff` say.
-use Rattle.std.specs.Prelude.{◌≡◌, ◌||◌, Bool, true, false, Option, None, Some, List, [], ◌∷◌, codes, is_some, map, option_and_then, option_map}
+use Rattle.std.specs.Prelude.{◌≡◌, ◌⊎◌, ◌&&◌, ◌||◌, Bool, true, false, Option, None, Some, List, [], ◌∷◌, codes, is_some, map, option_and_then, option_map}
+use Rattle.std.specs.declared.net.socket_addr.SocketAddrV4.{SocketAddrV4}
 use Rattle.clap.specs.Matches.{first_value, found_of, one_text}
 use Rattle.clap.specs.declared.parser.matches.ArgMatches.{ArgMatches}
 use Rattle.prt_addr.specs.Word.{Word}
 use Rattle.prt_refusals.specs.declared.on_refusal.OnRefusal.{OnRefusal}
 use Rattle.prt_refusals.specs.declared.on_refusal.OnRefusal.TheVariants.{GoOn, Stop}
-use Rattle.prt_words.specs.Places.{IsPlace}
+use Rattle.prt_words.specs.Places.{IsPlace, address_and_port, ends_of, names_place}
 use Rattle.prt_words.specs.Tasks.{text_of_flag}
 use Rattle.prt_words.specs.Invocation.{file_of}
 use Rattle.prt_words.specs.Reaching.{values_of}
@@ -27,11 +28,24 @@ value_of matches name = first_value (found_of matches) name
 abbrev pub IsServerBy : ArgMatches → ServerPlace → Type 0
 IsServerBy matches place = (word : Word) × (value_of matches (codes "server") ≡ Some word) × IsPlace word place
 
+-- the place is the one that the option's value denotes; none if it isn't given
+abbrev pub IsPlaceBy : ArgMatches → Word → Option SocketAddrV4 → Type 0
+IsPlaceBy matches name (Some place) = option_and_then address_and_port (value_of matches name) ≡ Some (ends_of place)
+IsPlaceBy matches name None = value_of matches name ≡ None
+
+-- the option's value denotes no place
+abbrev pub IsNoPlaceBy : ArgMatches → Word → Type 0
+IsNoPlaceBy matches name = option_map address_and_port (value_of matches name) ≡ Some None
+
 -- `--db` or `--server`, and not both, names the tables
 abbrev pub IsNamed : ArgMatches → Source → Type 0
 IsNamed matches (Database path) = (value_of matches (codes "db") ≡ Some path.now) × (value_of matches (codes "server") ≡ None)
 IsNamed matches (Server place) = (value_of matches (codes "db") ≡ None) × IsServerBy matches place
 IsNamed matches (Script script) = ⊥
+
+-- both are given, or the word of `--server` names no place
+abbrev pub IsMisnamed : ArgMatches → Type 0
+IsMisnamed matches = ((is_some (value_of matches (codes "db")) && is_some (value_of matches (codes "server"))) ≡ true) ⊎ (option_map names_place (value_of matches (codes "server")) ≡ Some false)
 
 abbrev pub NoneIsNamed : ArgMatches → Type 0
 NoneIsNamed matches = (value_of matches (codes "db") ≡ None) × (value_of matches (codes "server") ≡ None)

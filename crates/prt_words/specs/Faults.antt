@@ -1,5 +1,5 @@
 -- The exit status if nothing is run.
-use Rattle.std.specs.Prelude.{◌≡◌, ◌≢◌, ◌⊎◌, ℕ, List, true}
+use Rattle.std.specs.Prelude.{◌≡◌, ◌≢◌, ◌⊎◌, ℕ, List, true, false}
 use Rattle.clap.specs.Words.{kind_of}
 use Rattle.clap.specs.declared.error.Error.{Error}
 use Rattle.clap.specs.declared.error.kind.ErrorKind.{ErrorKind}
@@ -7,6 +7,7 @@ use Rattle.clap.specs.declared.error.kind.ErrorKind.TheVariants.{DisplayHelp, Di
 use Rattle.prt_addr.specs.Word.{Word}
 use Rattle.prt_refusals.specs.declared.refusal.Refusal.TheVariants.{NoMemory}
 use Rattle.prt_words.specs.Invocation.{Invocation, ask, batch, check, has_help, replay, serve, submit, help, help_on, version, usage_error}
+use Rattle.prt_words.specs.Places.{names_place}
 use Rattle.prt_words.specs.declared.fault.Fault.{Fault}
 use Rattle.prt_words.specs.declared.fault.Fault.TheVariants.{Words, Opening, Listener}
 
@@ -33,8 +34,7 @@ IsHelpOrBad words status = ((has_help words ≡ true) × (status ≡ 0)) ⊎ (st
 -- the status of words that ask for no run
 abbrev pub IsStatusOf : Invocation → ℕ → Type 0
 IsStatusOf (batch script) status = ⊥
--- the word names no place
-IsStatusOf (submit script) status = status ≡ 2
+IsStatusOf (submit script) status = (status ≡ 2) × (names_place script.server ≡ false)
 IsStatusOf (check file) status = ⊥
 IsStatusOf (replay file) status = ⊥
 IsStatusOf (serve words) status = IsHelpOrBad words status

@@ -1,12 +1,14 @@
 -- What the words of `serve` and of a question say: the values that a parse gives their options and operands are those of the task.
-use Rattle.std.specs.Prelude.{◌≡◌, ◌++◌, ℕ, Bool, true, false, List, [], ◌∷◌, Option, Some, bytes_eq, codes, if◌then◌else◌, option_and_then, option_map}
-use Rattle.clap.specs.Words.{found_of, rows_of, subcommand_of}
+use Rattle.std.specs.Prelude.{◌≡◌, ◌⊎◌, ◌++◌, ℕ, Bool, true, false, List, [], ◌∷◌, Option, None, Some, bytes_eq, codes, if◌then◌else◌, option_and_then, option_map}
+use Rattle.clap.specs.Words.{fault_of, found_of, rows_of, subcommand_of}
 use Rattle.clap.specs.declared.parser.matches.ArgMatches.{ArgMatches}
 use Rattle.prt_addr.specs.Word.{Word}
-use Rattle.prt_words.specs.Analysis.{AreNamed, IsFlag, IsNamed, IsServerBy, IsSearched, IsShownBy, NoneIsNamed, exactness_of, form_of, on_refusal_of, value_of}
+use Rattle.prt_refusals.specs.declared.refusal.Refusal.TheVariants.{NoMemory}
+use Rattle.prt_words.specs.Analysis.{AreNamed, IsFlag, IsNamed, IsNoPlaceBy, IsPlaceBy, IsServerBy, IsSearched, IsShownBy, NoneIsNamed, exactness_of, form_of, on_refusal_of, value_of}
 use Rattle.prt_words.specs.Asking.{name_of_asked}
 use Rattle.prt_words.specs.CommandLine.{command_line}
-use Rattle.prt_words.specs.Invocation.{file_of}
+use Rattle.prt_words.specs.Invocation.{file_of, invocation, serve}
+use Rattle.prt_words.specs.Places.{number_within}
 use Rattle.prt_words.specs.Reaching.{IsReachBy, values_of}
 use Rattle.prt_words.specs.Services.{IsStatusFormBy, IsTarget}
 use Rattle.prt_words.specs.declared.asking.Asked.{Asked}
@@ -18,6 +20,8 @@ use Rattle.prt_words.specs.declared.asking.Source.{Source}
 use Rattle.prt_words.specs.declared.asking.Source.TheVariants.{Script}
 use Rattle.prt_words.specs.declared.asking.Verb.{Verb}
 use Rattle.prt_words.specs.declared.asking.Verb.TheVariants as verb
+use Rattle.prt_words.specs.declared.fault.Fault.{Fault}
+use Rattle.prt_words.specs.declared.fault.Fault.TheVariants.{Opening}
 use Rattle.prt_words.specs.declared.server_place.ServerPlace.TheVariants.{Folder}
 use Rattle.prt_words.specs.declared.serving.Serving.{Serving}
 use Rattle.prt_words.specs.declared.task.Task.{Task}
@@ -80,7 +84,8 @@ IsAskedBy matches (asked.Diff diffing) =
     IsNamed matches diffing.source × IsReachBy matches diffing.reach × IsFileBy matches (option_map (λ path. path.now) diffing.file) × IsShownBy matches (Some diffing.shown)
 IsAskedBy matches (asked.Follow following) =
     IsServerBy matches following.server × IsReachBy matches following.reach × IsFileBy matches (option_map (λ path. path.now) following.file) × IsFlag matches (codes "once") (λ given. given) following.is_once
-IsAskedBy matches (asked.Wait waiting) = IsServerBy matches waiting.server
+IsAskedBy matches (asked.Wait waiting) =
+    IsServerBy matches waiting.server × (option_and_then (number_within 0 1000000) (value_of matches (codes "seconds")) ≡ Some waiting.seconds)
 IsAskedBy matches (asked.Import importing) =
     IsFileBy matches (option_map (λ path. path.now) importing.file) × (option_map (λ path. path.now) importing.database ≡ value_of matches (codes "db"))
 IsAskedBy matches (asked.Impact rehearsing) =
@@ -98,12 +103,30 @@ IsAskedBy matches (asked.Apply applying) =
     × IsFlag matches (codes "impact") (λ given. given) applying.has_impact
 IsAskedBy matches (asked.Status inspecting) = IsServerBy matches (Folder inspecting.folder) × IsStatusFormBy matches (Some inspecting.form)
 
--- what is served: the database and the folder of the sockets are those of the words
+-- what is served, where, how much of it, and whether it is logged
 abbrev pub IsServedBy : ArgMatches → Serving → Type 0
 IsServedBy matches serving =
     (value_of matches (codes "db") ≡ Some serving.database.now)
+    × IsPlaceBy matches (codes "listen") serving.listen
+    × IsPlaceBy matches (codes "atomic") serving.atomic
+    × IsPlaceBy matches (codes "feed") serving.feed
     × (option_map (λ path. path.now) serving.sockets ≡ value_of matches (codes "sockets"))
+    × (option_and_then (number_within 1 64) (value_of matches (codes "workers")) ≡ Some serving.workers)
+    × (option_and_then (number_within 0 1000000) (value_of matches (codes "sessions")) ≡ Some serving.sessions)
+    × (option_and_then (number_within 0 1000000) (value_of matches (codes "idle")) ≡ Some serving.idle)
     × IsFlag matches (codes "log") (λ given. given) serving.is_logged
+
+-- nothing can be served: no database is named, no place for sessions, or a value is none that its option may have
+abbrev pub IsNoService : ArgMatches → Type 0
+IsNoService matches =
+    (value_of matches (codes "db") ≡ None)
+    ⊎ (IsNoPlaceBy matches (codes "listen")
+    ⊎ (IsNoPlaceBy matches (codes "atomic")
+    ⊎ (IsNoPlaceBy matches (codes "feed")
+    ⊎ (((value_of matches (codes "listen") ≡ None) × (value_of matches (codes "sockets") ≡ None))
+    ⊎ ((option_and_then (number_within 1 64) (value_of matches (codes "workers")) ≡ None)
+    ⊎ ((option_and_then (number_within 0 1000000) (value_of matches (codes "sessions")) ≡ None)
+    ⊎ (option_and_then (number_within 0 1000000) (value_of matches (codes "idle")) ≡ None)))))))
 
 -- ---- all words
 
@@ -124,3 +147,9 @@ abbrev pub IsReadFrom : List Word → Task → Type 0
 IsReadFrom words (task.Serve serving) = IsServiceIn words serving
 IsReadFrom words (task.Ask asked) = IsQuestionIn words asked
 IsReadFrom words _ = Unit {0}
+
+-- if a parse takes the words of `serve`, they are refused only if nothing can be served by them, or for want of memory
+abbrev pub IsServiceRefused : List Word → Fault → Type 0
+IsServiceRefused words fault =
+    fault_of command_line (codes "prt" ∷ words) ≡ [] → invocation words ≡ serve words
+    → (fault ≡ Opening NoMemory) ⊎ ((matches : ArgMatches) × IsFoundIn words (codes "serve") matches × IsNoService matches)

@@ -4,7 +4,7 @@ use Rattle.std.specs.Option.{option_map_or}
 use Rattle.clap.specs.Words.{Row, Text, first_of, one_of}
 use Rattle.prt_words.specs.Asking.{name_of_asked}
 use Rattle.prt_words.specs.Invocation.{Invocation, ask, batch, check, file_of, is_question, mode_of, replay, serve, submit}
-use Rattle.prt_words.specs.Places.{IsPlace}
+use Rattle.prt_words.specs.Places.{IsPlace, names_place}
 use Rattle.prt_words.specs.Reaching.{IsAsked}
 use Rattle.prt_words.specs.declared.serving.Serving.{Serving}
 use Rattle.prt_words.specs.declared.task.Task.{Task}
@@ -40,12 +40,16 @@ IsModeBy force atomic mode = (forced together : Bool) → force ≡ Some (text_o
 abbrev pub IsModeOf : Option (Text × List Row) → Option Mode → Type 0
 IsModeOf found = IsModeBy (flag_text (codes "force") found) (flag_text (codes "atomic") found)
 
+-- no server at such a place runs such a script: its lines aren't executed together, a database is named too, or the word names no place
+abbrev pub IsUnfit : Mode → (database : Option Text) → (server : Text) → Type 0
+IsUnfit mode database server = (mode ≢ Together) ⊎ ((database ≢ None) ⊎ (names_place server ≡ false))
+
 -- the parse found a script whose lines can't be executed as its words ask, or not by the server that they name
 abbrev pub IsConflict : Option (Text × List Row) → Type 0
 IsConflict found =
     (subcommand_name found ≢ Some (codes "check"))
     × (subcommand_name found ≢ Some (codes "replay"))
-    × (IsModeOf found None ⊎ ((server : Text) × (named_server found ≡ Some server)))
+    × (IsModeOf found None ⊎ ((mode : Mode) × (server : Text) × IsModeOf found (Some mode) × (named_server found ≡ Some server) × IsUnfit mode (named_database found) server))
 
 -- the subcommand of this name asks a question
 abbrev pub asks_question : Option Text → Bool

@@ -3,7 +3,7 @@
 ghost use Rattle.std.specs.Prelude.{◌≡◌, ◌||◌, ◌++◌, IfErr, IfOk, IfSome, MatchOption, None, Some, codes, is_some, map, option_map, true};
 ghost use Rattle.clap.specs.Words.{found_of, rows_of, subcommand_name_of, subcommand_rows_of};
 ghost use Rattle.clap.specs.declared.parser.matches.ArgMatches.{ArgMatches};
-ghost use Rattle.prt_words.specs.Analysis.{IsFlag, IsNamed, IsShownBy, NoneIsNamed, form_of};
+ghost use Rattle.prt_words.specs.Analysis.{IsFlag, IsMisnamed, IsNamed, IsShownBy, NoneIsNamed, form_of};
 ghost use Rattle.prt_words.specs.Asking.{name_of_asked, name_of_verb, name_of_word};
 ghost use Rattle.prt_words.specs.Tasks.{asks_question};
 ghost use Rattle.prt_words.specs.Faults.{IsWordsFault};
@@ -305,7 +305,8 @@ fn line_of(alloc: Global, verb: Verb, words: &[&str]) -> Result<Vec<u8>, AllocEr
 ///
 /// They name two, or a place that is none.
 pub(crate) fn named_source<'a>(matches: &ArgMatches<'a>) -> Result<Option<Source<'a>>, BadQuestion>
-    ensures { IfOk result (λ named. MatchOption named (NoneIsNamed matches.now) (IsNamed matches.now)) }
+    ensures named { IfOk result (λ named. MatchOption named (NoneIsNamed matches.now) (IsNamed matches.now)) }
+    ensures refused { IfErr result (λ bad. IsMisnamed matches.now) }
 {
     match (matches.get_str("db"), matches.get_str("server")) {
         (None, None) => Ok(None),

@@ -1,6 +1,7 @@
 //! What the words of `follow` and `wait` ask for: what brings the kernel to the tables of a server, and the server itself.
-ghost use Rattle.std.specs.Prelude.{◌≤◌, IfOk, codes, option_map};
-ghost use Rattle.prt_words.specs.Analysis.{IsFlag, IsServerBy};
+ghost use Rattle.std.specs.Prelude.{◌≡◌, ◌≢◌, ◌≤◌, IfErr, IfOk, codes, option_and_then, option_map, true};
+ghost use Rattle.prt_words.specs.Analysis.{IsFlag, IsServerBy, value_of};
+ghost use Rattle.prt_words.specs.Places.{names_place, number_within};
 ghost use Rattle.prt_words.specs.Read.{IsFileBy};
 ghost use Rattle.prt_words.specs.Reaching.{IsReach, IsReachBy};
 
@@ -47,7 +48,8 @@ pub struct Waiting<'a> {
 ///
 /// It is none.
 pub(crate) fn server_in<'a>(matches: &ArgMatches<'a>) -> Result<ServerPlace<'a>, BadQuestion>
-    ensures { IfOk result (IsServerBy matches.now) }
+    ensures server { IfOk result (IsServerBy matches.now) }
+    ensures refused { IfErr result (λ bad. option_map names_place (value_of matches.now (codes "server")) ≢ Some true) }
 {
     let Some(word) = matches.get_str("server") else {
         return Err(BadQuestion::Words(BAD_SERVER));
@@ -91,6 +93,7 @@ pub(crate) fn following_of<'a>(
 pub(crate) fn waiting_of<'a>(matches: &ArgMatches<'a>) -> Result<Waiting<'a>, BadQuestion>
     ensures limits { IfOk result (λ waiting. waiting.seconds ≤ 1000000) }
     ensures server { IfOk result (λ waiting. IsServerBy matches.now waiting.server) }
+    ensures seconds { IfOk result (λ waiting. option_and_then (number_within 0 1000000) (value_of matches.now (codes "seconds")) ≡ Some waiting.seconds) }
 {
     let server = server_in(matches)?;
     let Some(seconds) = number_in(matches, "seconds", 0, 1_000_000) else {

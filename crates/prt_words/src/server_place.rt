@@ -1,6 +1,6 @@
 //! Where a server is.
-ghost use Rattle.std.specs.Prelude.{IfSome};
-ghost use Rattle.prt_words.specs.Places.{IsPlace};
+ghost use Rattle.std.specs.Prelude.{◌≡◌, IfSome, is_some};
+ghost use Rattle.prt_words.specs.Places.{IsPlace, is_folder, names_place};
 
 use crate::serving::place_of;
 use std::fmt::{self, Display, Formatter};
@@ -24,11 +24,19 @@ impl<'a> Display for ServerPlace<'a> {
     }
 }
 
+/// Checks that a word has a `/`.
+fn is_folder(word: &str) -> bool
+    ensures { result ≡ is_folder word.now }
+{
+    word.contains('/')
+}
+
 /// Reads where a server is: a word with a `/` is the path of a folder, any other one is `ADDR:PORT`.
 pub(crate) fn server_place_of(word: &str) -> Option<ServerPlace<'_>>
-    ensures { IfSome result (IsPlace word.now) }
+    ensures place { IfSome result (IsPlace word.now) }
+    ensures named { is_some result ≡ names_place word.now }
 {
-    if word.contains('/') {
+    if is_folder(word) {
         return Some(ServerPlace::Folder(word));
     }
     let address = place_of(word)?;

@@ -2,7 +2,7 @@
 ghost use Rattle.std.specs.Prelude.{IfErr, IfOk, None, Some, codes, option_map};
 ghost use Rattle.prt_words.specs.Analysis.{IsFlag, IsServerBy};
 ghost use Rattle.prt_words.specs.Read.{IsFileBy};
-ghost use Rattle.prt_words.specs.Services.{IsStatusFormBy, IsTarget};
+ghost use Rattle.prt_words.specs.Services.{IsAtomicBy, IsStatusFormBy, IsTarget};
 ghost use Rattle.prt_words.specs.declared.server_place.ServerPlace.TheVariants.{Folder};
 
 use crate::asking::{NO_TABLES, Source, named_source};
@@ -90,7 +90,9 @@ fn atomic_in<'a>(
     matches: &ArgMatches<'a>,
     feed: ServerPlace<'a>,
     is_dry_run: bool,
-) -> Result<Option<ServerPlace<'a>>, BadQuestion> {
+) -> Result<Option<ServerPlace<'a>>, BadQuestion>
+    ensures { IfOk result (IsAtomicBy matches.now feed.entry) }
+{
     match (feed, matches.get_str("atomic")) {
         (ServerPlace::Folder(_), None) => Ok(Some(feed)),
         (ServerPlace::Folder(_), Some(_)) => Err(BadQuestion::Words(ATOMIC_CONFLICT)),

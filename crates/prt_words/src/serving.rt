@@ -1,6 +1,10 @@
 //! What the words of `serve` ask for.
-ghost use Rattle.std.specs.Prelude.{◌≤◌, IfErr, IfOk, IfSome};
-ghost use Rattle.prt_words.specs.Read.{IsServedBy};
+ghost use Rattle.std.specs.Prelude.{◌≡◌, IfErr, IfOk, codes, option_and_then, option_map, Some};
+ghost use Rattle.std.specs.Char.{is_ascii_digit};
+ghost use Rattle.std.specs.List.{list_all};
+ghost use Rattle.prt_words.specs.Analysis.{IsNoPlaceBy, IsPlaceBy, value_of};
+ghost use Rattle.prt_words.specs.Places.{address_and_port, ends_of, number_within};
+ghost use Rattle.prt_words.specs.Read.{IsNoService, IsServedBy};
 ghost use Rattle.prt_words.specs.Tasks.{IsServing};
 ghost use Rattle.prt_words.specs.Faults.{IsWordsFault};
 ghost use Rattle.prt_words.specs.Invocation.{usage_error};
@@ -61,13 +65,20 @@ pub struct Serving<'a> {
     pub idle: u64,
 }
 
+/// Checks that a word has decimal digits alone.
+fn is_in_digits(word: &str) -> bool
+    ensures { result ≡ list_all is_ascii_digit word.now }
+{
+    word.bytes().all(|byte| byte.is_ascii_digit())
+}
+
 /// Reads a number in decimal digits, if it is within these limits.
 ///
 /// A number of two digits or more does not begin with 0.
 fn number_within(word: &str, least: u32, most: u32) -> Option<u32>
-    ensures { IfSome result (λ number. (least ≤ number) × (number ≤ most)) }
+    ensures { result ≡ number_within least most word.now }
 {
-    if !word.bytes().all(|byte| byte.is_ascii_digit()) {
+    if !is_in_digits(word) {
         return None;
     }
     let number = read_number(word.as_bytes()).ok()?;
@@ -79,7 +90,9 @@ fn number_within(word: &str, least: u32, most: u32) -> Option<u32>
 }
 
 /// Reads `ADDR:PORT`, whose address is written as in a command.
-pub(crate) fn place_of(word: &str) -> Option<SocketAddrV4> {
+pub(crate) fn place_of(word: &str) -> Option<SocketAddrV4>
+    ensures { option_map ends_of result ≡ address_and_port word.now }
+{
     let (address, port) = word.split_once(':')?;
     let Addr(address) = read_addr(address.as_bytes()).ok()?;
     let port = number_within(port, 0, 65535)?;
@@ -88,7 +101,7 @@ pub(crate) fn place_of(word: &str) -> Option<SocketAddrV4> {
 
 /// Parses the number that the matches have for an option, if it is within these limits.
 pub(crate) fn number_in(matches: &ArgMatches<'_>, name: &str, least: u32, most: u32) -> Option<u32>
-    ensures { IfSome result (λ number. (least ≤ number) × (number ≤ most)) }
+    ensures { result ≡ option_and_then (number_within least most) (value_of matches.now name.now) }
 {
     number_within(matches.get_str(name)?, least, most)
 }
@@ -104,7 +117,9 @@ fn place_in(
     name: &str,
     wrong: &str,
 ) -> Result<Option<SocketAddrV4>, Fault>
-    ensures { IfErr result (IsWordsFault usage_error) }
+    ensures place { IfOk result (IsPlaceBy matches.now name.now) }
+    ensures refused { IfErr result (λ fault. IsNoPlaceBy matches.now name.now) }
+    ensures fault { IfErr result (IsWordsFault usage_error) }
 {
     let Some(word) = matches.get_str(name) else {
         return Ok(None);
@@ -129,8 +144,10 @@ struct Limits {
 ///
 /// `Words` if a value is none that its option may have, `Opening` with `NoMemory` if memory is refused.
 fn limits_in(alloc: Global, matches: &ArgMatches<'_>) -> Result<Limits, Fault>
-    ensures workers { IfOk result (λ limits. (1 ≤ limits.workers) × (limits.workers ≤ 64)) }
-    ensures others { IfOk result (λ limits. (limits.sessions ≤ 1000000) × (limits.idle ≤ 1000000)) }
+    ensures workers { IfOk result (λ limits. option_and_then (number_within 1 64) (value_of matches.now (codes "workers")) ≡ Some limits.workers) }
+    ensures sessions { IfOk result (λ limits. option_and_then (number_within 0 1000000) (value_of matches.now (codes "sessions")) ≡ Some limits.sessions) }
+    ensures idle { IfOk result (λ limits. option_and_then (number_within 0 1000000) (value_of matches.now (codes "idle")) ≡ Some limits.idle) }
+    ensures refused { IfErr result (λ fault. IsNoService matches.now) }
     ensures fault { IfErr result (IsWordsFault usage_error) }
 {
     let Some(workers) = number_in(matches, "workers", 1, 64) else {
@@ -157,6 +174,7 @@ fn limits_in(alloc: Global, matches: &ArgMatches<'_>) -> Result<Limits, Fault>
 pub(crate) fn serving_of<'a>(alloc: Global, matches: &ArgMatches<'a>) -> Result<Serving<'a>, Fault>
     ensures limits { IfOk result IsServing }
     ensures reads { IfOk result (IsServedBy matches.now) }
+    ensures refused { IfErr result (λ fault. IsNoService matches.now) }
     ensures fault { IfErr result (IsWordsFault usage_error) }
 {
     let Some(database) = matches.get_str("db") else {

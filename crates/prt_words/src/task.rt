@@ -2,8 +2,8 @@
 ghost use Rattle.std.specs.Prelude.{◌≡◌, IfErr, IfOk, None, Some, codes, false, option_and_then, option_map, true};
 ghost use Rattle.clap.specs.Words.{first_of, found_of, one_of, rows_of, subcommand_rows_of};
 ghost use Rattle.prt_words.specs.Places.{IsPlace};
-ghost use Rattle.prt_words.specs.Read.{IsFileBy, IsReadFrom};
-ghost use Rattle.prt_words.specs.Tasks.{IsAskedFor, IsConflict, IsModeBy, IsQuestionOf, IsTaskOf, IsWithinLimits};
+ghost use Rattle.prt_words.specs.Read.{IsFileBy, IsReadFrom, IsServiceRefused};
+ghost use Rattle.prt_words.specs.Tasks.{IsAskedFor, IsConflict, IsModeBy, IsQuestionOf, IsTaskOf, IsUnfit, IsWithinLimits};
 ghost use Rattle.prt_words.specs.Faults.{IsWordsFault};
 ghost use Rattle.prt_words.specs.Invocation.{arguments, file_of, invocation, usage_error};
 ghost use Rattle.prt_words.specs.declared.task.Mode.TheVariants.{Together};
@@ -167,6 +167,7 @@ fn submitted_to<'a>(
     database: Option<&str>,
 ) -> Result<ServerPlace<'a>, Fault>
     ensures place { IfOk result (IsPlace word.now) }
+    ensures unfit { IfErr result (λ fault. IsUnfit mode (option_map (λ path. path.now) database.entry) word.now) }
     ensures together { IfOk result (λ place. mode ≡ Together) }
     ensures alone { IfOk result (λ place. option_map (λ path. path.now) database.entry ≡ None) }
     ensures fault { IfErr result (IsWordsFault usage_error) }
@@ -240,6 +241,7 @@ pub fn read_words<'a>(alloc: Global, words: &'a [String]) -> Result<Task<'a>, Fa
     ensures reads { IfOk result (IsReadFrom (arguments words.entry.now)) }
     ensures limits { IfOk result IsWithinLimits }
     ensures fault { IfErr result (IsWordsFault (invocation (arguments words.entry.now))) }
+    ensures refused { IfErr result (IsServiceRefused (arguments words.entry.now)) }
 {
     let matches = command_line(alloc)?.try_get_matches_from(words)?;
     match matches.subcommand_matches(SERVE) {

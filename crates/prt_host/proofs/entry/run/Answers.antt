@@ -10,7 +10,7 @@ use Rattle.prt_host.proofs.entry.run.Goals as goal
 pub returns-in-Exit : goal.returns-in-Exit
 returns-in-Exit g c =
     let asked = invocation (arguments c.args.words.now) in
-    exit_alone g.S.Store g.M.Machine.opens g.M.Machine.closes c.args.databases.now c.program-next.new.databases (λ d. d.machine) g.M.Machine.refuses g.F.Opened.Read.remaining _ asked _ c.in-Exit.status c.in-Exit.ensures.run c.in-Exit.ensures.unopened
+    exit_alone g.S.Store g.M.Machine.opens g.M.Machine.closes c.args.databases.now c.program-next.new.databases (λ d. d.machine) g.M.Machine.refuses (g.F.ReadFiles.opens c.args.databases.now.files.now) g.F.Opened.Read.remaining _ asked _ c.in-Exit.status c.in-Exit.ensures.run c.in-Exit.ensures.unopened
 
 pub returns-in-Serve : goal.returns-in-Serve
 returns-in-Serve g c =

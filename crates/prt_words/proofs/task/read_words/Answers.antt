@@ -1,16 +1,16 @@
-use Rattle.std.proofs.Common.{rules, ◌≡◌, ◌∙◌, ℕ, Some, is_some, option_map, codes, ap, subst, sym, map, List, true≢false}
+use Rattle.std.proofs.Common.{rules, ◌≡◌, ◌∙◌, ℕ, Some, is_some, option_map, codes, ap, subst, sym, map, List, true≢false, inl, inr}
 use Rattle.std.proofs.lemmas.Result.{IfErr-weaker, IfOk-weaker, err_from_is_err_and}
 use Rattle.std.specs.Prelude.{IfSome, string_bytes}
 use Rattle.clap.specs.Kinds.{HasKind}
 use Rattle.clap.specs.declared.parser.matches.ArgMatches.{ArgMatches}
-use Rattle.prt_words.specs.Read.{IsAskedBy}
+use Rattle.prt_words.specs.Read.{IsAskedBy, IsServiceRefused}
 use Rattle.clap.specs.Words.{App, fault_of, found_of, rows_of, subcommand_rows_of, is_simple, is_simple_and_free, subcommand_name_of, subcommand_of}
 use Rattle.prt_words.specs.Asking.{name_of_asked}
 use Rattle.prt_words.specs.CommandLine.{command_line}
 use Rattle.prt_words.specs.Invocation.{invocation, arguments}
 use Rattle.prt_words.proofs.WordClasses.{simple_line, free_line}
 use Rattle.prt_words.proofs.ParsedWords.{words_agree}
-use Rattle.prt_words.proofs.WordsRead.{asked_is, conflict_fault, conflicting_is, found_in, named_found, no_question_of, no_reading, other_is, question_is, served_is, words_fault}
+use Rattle.prt_words.proofs.WordsRead.{any_fault, asked_is, conflict_fault, conflicting_is, found_in, is_served, named_found, no_question_of, no_reading, not_asked, other_is, question_is, refused_parse, served_is, words_fault}
 use Rattle.prt_words.proofs.task.read_words.Goals as goal
 
 pub returns-in_err-matches-clause-fault : goal.returns-in_err-matches-clause-fault
@@ -110,3 +110,37 @@ returns-clause-fault c =
     conflict_fault (invocation (arguments c.args.words.now)) c.task_of.result (IfErr-weaker c.task_of.result _ _ (λ fault is. conflicting_is texts c.in_ok-matches.matches found none
     (λ named. absurd (true≢false (sym (c.subcommand_matches.ensures.found.1 named) ∙ ap is_some c.in-None.is)))
     (sym c.in_ok-asked-in-None.ensures.asked ∙ ap is_some c.in-None-2.is) is) c.task_of.ensures.conflict) c.task_of.ensures.fault
+
+pub returns-in_err-matches-clause-refused : goal.returns-in_err-matches-clause-refused
+returns-in_err-matches-clause-refused c =
+    let texts : List (List ℕ) = map string_bytes c.args.words.now in
+    let line = c.in_ok-command_line.ensures in
+    let error = c.in_err-matches.field-0.0 in
+    let has : HasKind (fault_of command_line texts) error =
+    subst (λ (a : App). HasKind (fault_of a texts) error) line (c.in_err-matches.ensures.kinds (ap is_simple_and_free line ∙ free_line)) in
+    let given = err_from_is_err_and c.from_residual-in_err-matches.result c.from_residual-in_err-matches.ensures.1 in
+    rw given.1 (λ none serves. inl (refused_parse texts error given.0 has given.2 none))
+
+pub returns-in_err-serving_of-in-Some-clause-refused : goal.returns-in_err-serving_of-in-Some-clause-refused
+returns-in_err-serving_of-in-Some-clause-refused c =
+    let texts : List (List ℕ) = map string_bytes c.args.words.now in
+    let line = c.in_ok-command_line.ensures in
+    let found = (c.in_ok-matches.ensures.matches (ap is_simple line ∙ simple_line)).1 ∙ ap (λ (a : App). subcommand_of a texts) line in
+    let named = c.subcommand_matches.ensures.found.0 (ap is_some c.in-Some.is) in
+    let rows = subst (λ matches. IfSome matches (λ m. option_map (λ p. p.1) (subcommand_rows_of c.in_ok-matches.matches) ≡ Some (rows_of (found_of m.now)))) c.in-Some.is c.subcommand_matches.ensures.rows in
+    let is = found_in texts c.in_ok-matches.matches (codes "serve") c.in-Some.found.now found (named_found c.in_ok-matches.matches (codes "serve") _ named rows) in
+    any_fault c.from_residual-in_err-serving_of-in-Some.result (IsServiceRefused (arguments c.args.words.now)) (λ fault none serves. inr (c.in-Some.found.now, is, c.in_err-serving_of-in-Some.ensures.refused))
+
+pub returns-in_err-asked-in-None-clause-refused : goal.returns-in_err-asked-in-None-clause-refused
+returns-in_err-asked-in-None-clause-refused c =
+    let texts : List (List ℕ) = map string_bytes c.args.words.now in
+    let line = c.in_ok-command_line.ensures in
+    let found = (c.in_ok-matches.ensures.matches (ap is_simple line ∙ simple_line)).1 ∙ ap (λ (a : App). subcommand_of a texts) line in
+    any_fault c.from_residual-in_err-asked-in-None.result (IsServiceRefused (arguments c.args.words.now)) (λ fault none serves. absurd (not_asked texts c.in_ok-matches.matches found none c.in_err-asked-in-None.ensures.fault.0 serves))
+
+pub returns-clause-refused : goal.returns-clause-refused
+returns-clause-refused c =
+    let texts : List (List ℕ) = map string_bytes c.args.words.now in
+    let line = c.in_ok-command_line.ensures in
+    let found = (c.in_ok-matches.ensures.matches (ap is_simple line ∙ simple_line)).1 ∙ ap (λ (a : App). subcommand_of a texts) line in
+    any_fault c.task_of.result (IsServiceRefused (arguments c.args.words.now)) (λ fault none serves. absurd (true≢false (sym (c.subcommand_matches.ensures.found.1 (is_served texts c.in_ok-matches.matches found serves)) ∙ ap is_some c.in-None.is)))
