@@ -12,6 +12,9 @@ use prt_refusals::Refusal;
 use prt_version::{Answer, Verdict};
 use std::alloc::AllocError;
 
+/// How many bytes are taken at once for an answer: most have less, and then their text never grows.
+const ROOM: usize = 128;
+
 /// Names the rule of this priority.
 fn rule_part(priority: u32) -> Part
     ensures { part_text result ≡ rule_part priority }
@@ -63,6 +66,7 @@ pub fn answer_text(out: &mut Vec<u8>, answer: &Answer) -> Result<(), Refusal>
     ensures err { OnErr result (out.new.items ≡ out.old.items) }
     ensures reason { IsOkUnless result NoMemory }
 {
+    out.reserve(ROOM)?;
     let len = out.len();
     let pushed = push_answer(out, answer);
     whole_or_nothing(out, len, pushed)
