@@ -12,29 +12,25 @@ pub(crate) fn impact_line<'a>(alloc: Global) -> Result<Command<'a>, AllocError>
     ensures line { IfOk result (λ command. app_of command ≡ impact_line) }
     ensures own { IfOk result (λ command. has_globals command ≡ false) }
 {
-    let json = flag(alloc, "json", "Answer in JSON");
-    let exact = flag(
-        alloc,
-        "exact",
-        "Show also packets that another rule or route sends the same way",
-    );
-    let force = flag(
-        alloc,
-        "force",
-        "Go on with the next line after a refused one",
-    );
-    let files = words_operand(
-        alloc,
-        "FILE",
-        "The commands, or `-` for standard input; without --db and --server a script before them makes the tables",
-    );
-    let place = place_line(
-        alloc,
-        "impact",
-        "Executes commands on a copy of the tables, and shows which packets they send another way",
-        QUERIED,
-    )?;
-    place.arg(json)?.arg(exact)?.arg(force)?.arg(files)
+    let about =
+        "Executes commands on a copy of the tables, and shows which packets they send another way";
+    place_line(alloc, "impact", about, QUERIED)?
+        .arg(flag(alloc, "json", "Answer in JSON"))?
+        .arg(flag(
+            alloc,
+            "exact",
+            "Show also packets that another rule or route sends the same way",
+        ))?
+        .arg(flag(
+            alloc,
+            "force",
+            "Go on with the next line after a refused one",
+        ))?
+        .arg(words_operand(
+            alloc,
+            "FILE",
+            "The commands, or `-` for standard input; without --db and --server a script before them makes the tables",
+        ))
 }
 
 /// Builds the words that may follow `assert`.
@@ -42,23 +38,18 @@ pub(crate) fn assert_line<'a>(alloc: Global) -> Result<Command<'a>, AllocError>
     ensures line { IfOk result (λ command. app_of command ≡ assert_line) }
     ensures own { IfOk result (λ command. has_globals command ≡ false) }
 {
-    let explain = flag(
-        alloc,
-        "explain",
-        "Explain for each claim that fails why a packet goes elsewhere",
-    );
-    let files = words_operand(
-        alloc,
-        "FILE",
-        "The claims, or `-` for standard input; without --db and --server a script before them makes the tables",
-    );
-    let place = place_line(
-        alloc,
-        "assert",
-        "Checks claims of where packets go, and shows those that fail",
-        QUERIED,
-    )?;
-    place.arg(explain)?.arg(files)
+    let about = "Checks claims of where packets go, and shows those that fail";
+    place_line(alloc, "assert", about, QUERIED)?
+        .arg(flag(
+            alloc,
+            "explain",
+            "Explain for each claim that fails why a packet goes elsewhere",
+        ))?
+        .arg(words_operand(
+            alloc,
+            "FILE",
+            "The claims, or `-` for standard input; without --db and --server a script before them makes the tables",
+        ))
 }
 
 /// Builds the words that may follow `unused`.
@@ -66,17 +57,11 @@ pub(crate) fn unused_line<'a>(alloc: Global) -> Result<Command<'a>, AllocError>
     ensures line { IfOk result (λ command. app_of command ≡ unused_line) }
     ensures own { IfOk result (λ command. has_globals command ≡ false) }
 {
-    let file = file_operand(
+    let about = "Lists rules and routes that no packet uses";
+    place_line(alloc, "unused", about, QUERIED)?.arg(file_operand(
         alloc,
         "Without --db and --server, the script that makes the tables; standard input if it is missing or `-`",
-    );
-    let place = place_line(
-        alloc,
-        "unused",
-        "Lists rules and routes that no packet uses",
-        QUERIED,
-    )?;
-    place.arg(file)
+    ))
 }
 
 /// Adds the subcommands that analyse where packets go.
@@ -86,11 +71,8 @@ pub(crate) fn with_analyses<'a>(
 ) -> Result<Command<'a>, AllocError>
     ensures { IfOk result (λ made. app_of made ≡ with_analyses (app_of command.entry)) }
 {
-    let impact = impact_line(alloc)?;
-    let assert = assert_line(alloc)?;
-    let unused = unused_line(alloc)?;
     command
-        .subcommand(impact)?
-        .subcommand(assert)?
-        .subcommand(unused)
+        .subcommand(impact_line(alloc)?)?
+        .subcommand(assert_line(alloc)?)?
+        .subcommand(unused_line(alloc)?)
 }

@@ -83,37 +83,31 @@ pub(crate) fn batch_line<'a>(alloc: Global) -> Result<Command<'a>, AllocError>
     ensures line { IfOk result (λ command. app_of command ≡ batch_line) }
     ensures own { IfOk result (λ command. has_globals command ≡ false) }
 {
-    let force = flag(
-        alloc,
-        "force",
-        "Go on with the next line after a refused one",
-    );
-    let atomic = flag(
-        alloc,
-        "atomic",
-        "Make all changes together or none, once all lines are read; not with --force",
-    );
-    let database = database_option(alloc);
-    let server = option(
-        alloc,
-        "server",
-        "WHERE",
-        "Have a server make the changes: the folder of its sockets, or the address and port of its atomic scripts; with --atomic",
-    );
-    let verbose = flag(
-        alloc,
-        "verbose",
-        "Report each refused line on standard error, even if that is no terminal",
-    );
-    let file = file_operand(alloc, "The script; standard input if it is missing or `-`");
     Command::new(alloc, "batch")
         .about("Runs a script of route and rule commands over a database")
-        .arg(force)?
-        .arg(atomic)?
-        .arg(database)?
-        .arg(server)?
-        .arg(verbose)?
-        .arg(file)
+        .arg(flag(
+            alloc,
+            "force",
+            "Go on with the next line after a refused one",
+        ))?
+        .arg(flag(
+            alloc,
+            "atomic",
+            "Make all changes together or none, once all lines are read; not with --force",
+        ))?
+        .arg(database_option(alloc))?
+        .arg(option(
+            alloc,
+            "server",
+            "WHERE",
+            "Have a server make the changes: the folder of its sockets, or the address and port of its atomic scripts; with --atomic",
+        ))?
+        .arg(flag(
+            alloc,
+            "verbose",
+            "Report each refused line on standard error, even if that is no terminal",
+        ))?
+        .arg(file_operand(alloc, "The script; standard input if it is missing or `-`"))
 }
 
 /// Says which words may follow `check`.
@@ -121,12 +115,11 @@ fn check_line<'a>(alloc: Global) -> Result<Command<'a>, AllocError>
     ensures line { IfOk result (λ command. app_of command ≡ check_line) }
     ensures own { IfOk result (λ command. has_globals command ≡ false) }
 {
-    let file = file_operand(alloc, "The script; standard input if it is missing or `-`");
     Command::new(alloc, "check")
         .about(
             "Reads a script without executing it, and lists the lines that would be refused as written",
         )
-        .arg(file)
+        .arg(file_operand(alloc, "The script; standard input if it is missing or `-`"))
 }
 
 /// Says which words may follow `replay`.
@@ -134,13 +127,12 @@ fn replay_line<'a>(alloc: Global) -> Result<Command<'a>, AllocError>
     ensures line { IfOk result (λ command. app_of command ≡ replay_line) }
     ensures own { IfOk result (λ command. has_globals command ≡ false) }
 {
-    let file = file_operand(
-        alloc,
-        "The events, one a line; standard input if it is missing or `-`",
-    );
     Command::new(alloc, "replay")
         .about("Replays a list of events from a new database, and shows what each of them leads to")
-        .arg(file)
+        .arg(file_operand(
+            alloc,
+            "The events, one a line; standard input if it is missing or `-`",
+        ))
 }
 
 /// Makes the operand that has the words of a question.
@@ -168,17 +160,15 @@ pub(crate) fn place_line<'a>(
     ensures line { IfOk result (λ command. app_of command ≡ place_line name.entry.now) }
     ensures own { IfOk result (λ command. has_globals command ≡ false) }
 {
-    let database = option(alloc, "db", "PATH", database_help);
-    let server = option(
-        alloc,
-        "server",
-        "WHERE",
-        "A server: the folder of its sockets, or the address and port of its feed",
-    );
     Command::new(alloc, name)
         .about(about)
-        .arg(database)?
-        .arg(server)
+        .arg(option(alloc, "db", "PATH", database_help))?
+        .arg(option(
+            alloc,
+            "server",
+            "WHERE",
+            "A server: the folder of its sockets, or the address and port of its feed",
+        ))
 }
 
 /// Says which words name the tables that are queried, and the form of the answer.
@@ -186,18 +176,17 @@ fn tables_line<'a>(alloc: Global, name: &'a str, about: &'a str) -> Result<Comma
     ensures line { IfOk result (λ command. app_of command ≡ tables_line name.entry.now) }
     ensures own { IfOk result (λ command. has_globals command ≡ false) }
 {
-    let json = flag(
-        alloc,
-        "json",
-        "Answer in JSON, with the field names of `ip -j`",
-    );
-    let names = flag(
-        alloc,
-        "names",
-        "Print tables by their names in iproute2's `rt_tables`",
-    );
-    let place = place_line(alloc, name, about, QUERIED)?;
-    place.arg(json)?.arg(names)
+    place_line(alloc, name, about, QUERIED)?
+        .arg(flag(
+            alloc,
+            "json",
+            "Answer in JSON, with the field names of `ip -j`",
+        ))?
+        .arg(flag(
+            alloc,
+            "names",
+            "Print tables by their names in iproute2's `rt_tables`",
+        ))
 }
 
 /// Says which words may follow the name of a question.
@@ -211,9 +200,7 @@ fn question_line<'a>(
     ensures line { IfOk result (λ command. app_of command ≡ question_line name.entry.now) }
     ensures own { IfOk result (λ command. has_globals command ≡ false) }
 {
-    let words = words_operand(alloc, value, help);
-    let tables = tables_line(alloc, name, about)?;
-    tables.arg(words)
+    tables_line(alloc, name, about)?.arg(words_operand(alloc, value, help))
 }
 
 /// Says which words may follow `get`.
@@ -263,17 +250,12 @@ pub(crate) fn dump_line<'a>(alloc: Global) -> Result<Command<'a>, AllocError>
     ensures line { IfOk result (λ command. app_of command ≡ dump_line) }
     ensures own { IfOk result (λ command. has_globals command ≡ false) }
 {
-    let replace = flag(
+    let about = "Prints commands that recreate the rules and routes of a database";
+    tables_line(alloc, "dump", about)?.arg(flag(
         alloc,
         "replace",
         "Print commands that replace existing routes, without the kernel's own routes; not with --json or --names",
-    );
-    let tables = tables_line(
-        alloc,
-        "dump",
-        "Prints commands that recreate the rules and routes of a database",
-    )?;
-    tables.arg(replace)
+    ))
 }
 
 /// Makes the operand that names a listing of the kernel's.
@@ -292,24 +274,24 @@ pub(crate) fn diff_line<'a>(alloc: Global) -> Result<Command<'a>, AllocError>
     ensures line { IfOk result (λ command. app_of command ≡ diff_line) }
     ensures own { IfOk result (λ command. has_globals command ≡ false) }
 {
-    let check = flag(
-        alloc,
-        "check",
-        "Print nothing; the status is 1 if anything differs",
-    );
-    let impact = flag(
-        alloc,
-        "impact",
-        "Show first, as comments, which packets the lines send another way; not with --check",
-    );
-    let file = listing_operand(alloc);
     let place = place_line(
         alloc,
         "diff",
         "Prints the lines for `ip -batch` that bring the kernel to a database, as far as the options allow",
         QUERIED,
     )?;
-    with_reach(alloc, place)?.arg(check)?.arg(impact)?.arg(file)
+    with_reach(alloc, place)?
+        .arg(flag(
+            alloc,
+            "check",
+            "Print nothing; the status is 1 if anything differs",
+        ))?
+        .arg(flag(
+            alloc,
+            "impact",
+            "Show first, as comments, which packets the lines send another way; not with --check",
+        ))?
+        .arg(listing_operand(alloc))
 }
 
 /// Says which words may follow `import`.
@@ -317,60 +299,46 @@ pub(crate) fn import_line<'a>(alloc: Global) -> Result<Command<'a>, AllocError>
     ensures line { IfOk result (λ command. app_of command ≡ import_line) }
     ensures own { IfOk result (λ command. has_globals command ≡ false) }
 {
-    let database = option(
-        alloc,
-        "db",
-        "PATH",
-        "Make the tables of this database file what the script makes, instead of printing it",
-    );
-    let file = listing_operand(alloc);
     Command::new(alloc, "import")
         .about("Prints a script that makes the rules and routes that `ip` prints")
-        .arg(database)?
-        .arg(file)
+        .arg(option(
+            alloc,
+            "db",
+            "PATH",
+            "Make the tables of this database file what the script makes, instead of printing it",
+        ))?
+        .arg(listing_operand(alloc))
 }
 
 /// Adds the subcommands that ask questions.
 fn with_questions<'a>(alloc: Global, command: Command<'a>) -> Result<Command<'a>, AllocError>
     ensures { IfOk result (λ made. app_of made ≡ with_questions (app_of command.entry)) }
 {
-    let get = get_line(alloc)?;
-    let show = show_line(alloc)?;
-    let explain = explain_line(alloc)?;
-    let dump = dump_line(alloc)?;
-    let diff = diff_line(alloc)?;
-    let follow = follow_line(alloc)?;
-    let wait = wait_line(alloc)?;
-    let import = import_line(alloc)?;
     command
-        .subcommand(get)?
-        .subcommand(show)?
-        .subcommand(explain)?
-        .subcommand(dump)?
-        .subcommand(diff)?
-        .subcommand(follow)?
-        .subcommand(wait)?
-        .subcommand(import)
+        .subcommand(get_line(alloc)?)?
+        .subcommand(show_line(alloc)?)?
+        .subcommand(explain_line(alloc)?)?
+        .subcommand(dump_line(alloc)?)?
+        .subcommand(diff_line(alloc)?)?
+        .subcommand(follow_line(alloc)?)?
+        .subcommand(wait_line(alloc)?)?
+        .subcommand(import_line(alloc)?)
 }
 
 /// Says which words the program knows.
 pub(crate) fn command_line<'a>(alloc: Global) -> Result<Command<'a>, AllocError>
     ensures { IfOk result (λ command. app_of command ≡ command_line) }
 {
-    let batch = batch_line(alloc)?;
-    let check = check_line(alloc)?;
-    let replay = replay_line(alloc)?;
-    let serve = serve_line(alloc)?;
     let command = Command::new(alloc, "prt")
         .bin_name("prt")?
         .about("The table service of an IPv4 policy router")
         .version(VERSION)
         .subcommand_required(true)
         .arg_required_else_help(true)
-        .subcommand(batch)?
-        .subcommand(check)?
-        .subcommand(replay)?
-        .subcommand(serve)?;
+        .subcommand(batch_line(alloc)?)?
+        .subcommand(check_line(alloc)?)?
+        .subcommand(replay_line(alloc)?)?
+        .subcommand(serve_line(alloc)?)?;
     let asking = with_questions(alloc, command)?;
     let analysing = with_analyses(alloc, asking)?;
     with_services(alloc, analysing)

@@ -20,30 +20,30 @@ pub(crate) fn with_reach<'a>(alloc: Global, command: Command<'a>) -> Result<Comm
     ensures line { IfOk result (λ made. app_of made ≡ with_reach (app_of command.entry)) }
     ensures own { has_globals command.entry ≡ false → IfOk result (λ made. has_globals made ≡ false) }
 {
-    let all = flag(
-        alloc,
-        "all",
-        "Compare and change all of the kernel's rules and routes",
-    );
-    let table = repeated_option(
-        alloc,
-        "table",
-        "T",
-        "Compare and change the routes of this table, or of the tables from the first to the last one as `T-T`; may be repeated",
-    );
-    let protocol = repeated_option(
-        alloc,
-        "proto",
-        "P",
-        "Compare and change the routes of this protocol; may be repeated",
-    );
-    let priority = repeated_option(
-        alloc,
-        "priority",
-        "P",
-        "Compare and change the rules of this priority, or of the priorities from the first to the last one as `P-P`; may be repeated",
-    );
-    command.arg(all)?.arg(table)?.arg(protocol)?.arg(priority)
+    command
+        .arg(flag(
+            alloc,
+            "all",
+            "Compare and change all of the kernel's rules and routes",
+        ))?
+        .arg(repeated_option(
+            alloc,
+            "table",
+            "T",
+            "Compare and change the routes of this table, or of the tables from the first to the last one as `T-T`; may be repeated",
+        ))?
+        .arg(repeated_option(
+            alloc,
+            "proto",
+            "P",
+            "Compare and change the routes of this protocol; may be repeated",
+        ))?
+        .arg(repeated_option(
+            alloc,
+            "priority",
+            "P",
+            "Compare and change the rules of this priority, or of the priorities from the first to the last one as `P-P`; may be repeated",
+        ))
 }
 
 /// Says of the server of a question where it is.
@@ -59,8 +59,9 @@ pub(crate) fn server_line<'a>(
     ensures line { IfOk result (λ command. app_of command ≡ server_line name.entry.now) }
     ensures own { IfOk result (λ command. has_globals command ≡ false) }
 {
-    let server = needed_option(alloc, "server", "WHERE", where_help);
-    Command::new(alloc, name).about(about).arg(server)
+    Command::new(alloc, name)
+        .about(about)
+        .arg(needed_option(alloc, "server", "WHERE", where_help))
 }
 
 /// Says which words may follow `follow`.
@@ -68,15 +69,15 @@ pub(crate) fn follow_line<'a>(alloc: Global) -> Result<Command<'a>, AllocError>
     ensures line { IfOk result (λ command. app_of command ≡ follow_line) }
     ensures own { IfOk result (λ command. has_globals command ≡ false) }
 {
-    let once = flag(alloc, "once", "End after the lines for what differs now");
-    let file = listing_operand(alloc);
     let server = server_line(
         alloc,
         "follow",
         "Prints the lines for `ip -batch` that bring the kernel to a server's tables, now and after each change",
         WHERE,
     )?;
-    with_reach(alloc, server)?.arg(once)?.arg(file)
+    with_reach(alloc, server)?
+        .arg(flag(alloc, "once", "End after the lines for what differs now"))?
+        .arg(listing_operand(alloc))
 }
 
 /// Says which words may follow `wait`.
@@ -84,13 +85,11 @@ pub(crate) fn wait_line<'a>(alloc: Global) -> Result<Command<'a>, AllocError>
     ensures line { IfOk result (λ command. app_of command ≡ wait_line) }
     ensures own { IfOk result (λ command. has_globals command ≡ false) }
 {
-    let seconds = number_option(
+    server_line(alloc, "wait", "Waits until a server answers", WHERE)?.arg(number_option(
         alloc,
         "seconds",
         "S",
         "30",
         "How many seconds to wait at most, up to 1000000",
-    );
-    let server = server_line(alloc, "wait", "Waits until a server answers", WHERE)?;
-    server.arg(seconds)
+    ))
 }

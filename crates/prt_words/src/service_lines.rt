@@ -13,26 +13,22 @@ pub(crate) fn apply_line<'a>(alloc: Global) -> Result<Command<'a>, AllocError>
     ensures line { IfOk result (λ command. app_of command ≡ apply_line) }
     ensures own { IfOk result (λ command. has_globals command ≡ false) }
 {
-    let atomic = option(
-        alloc,
-        "atomic",
-        "ADDR:PORT",
-        "The address and port where the server takes atomic scripts, if --server isn't a folder",
-    );
-    let dry_run = flag(alloc, "dry-run", "Print the changes without making them");
-    let impact = flag(
-        alloc,
-        "impact",
-        "Show first, as comments, which packets the changes send another way",
-    );
-    let file = file_operand(alloc, "The script; standard input if it is missing or `-`");
-    let place = place_line(
-        alloc,
-        "apply",
-        "Makes the tables what a script makes of a new database, and prints the changes",
-        "The database file, created if it is missing; with --dry-run it must exist",
-    )?;
-    place.arg(atomic)?.arg(dry_run)?.arg(impact)?.arg(file)
+    let about = "Makes the tables what a script makes of a new database, and prints the changes";
+    let database = "The database file, created if it is missing; with --dry-run it must exist";
+    place_line(alloc, "apply", about, database)?
+        .arg(option(
+            alloc,
+            "atomic",
+            "ADDR:PORT",
+            "The address and port where the server takes atomic scripts, if --server isn't a folder",
+        ))?
+        .arg(flag(alloc, "dry-run", "Print the changes without making them"))?
+        .arg(flag(
+            alloc,
+            "impact",
+            "Show first, as comments, which packets the changes send another way",
+        ))?
+        .arg(file_operand(alloc, "The script; standard input if it is missing or `-`"))
 }
 
 /// Builds the words that may follow `status`.
@@ -40,19 +36,14 @@ pub(crate) fn status_line<'a>(alloc: Global) -> Result<Command<'a>, AllocError>
     ensures line { IfOk result (λ command. app_of command ≡ status_line) }
     ensures own { IfOk result (λ command. has_globals command ≡ false) }
 {
-    let json = flag(alloc, "json", "Answer in JSON");
-    let metrics = flag(
-        alloc,
-        "metrics",
-        "Answer in the text format of Prometheus; not with --json",
-    );
-    let server = server_line(
-        alloc,
-        "status",
-        "Shows how a server does",
-        "The server: the folder of its sockets, a word with a `/`",
-    )?;
-    server.arg(json)?.arg(metrics)
+    let place = "The server: the folder of its sockets, a word with a `/`";
+    server_line(alloc, "status", "Shows how a server does", place)?
+        .arg(flag(alloc, "json", "Answer in JSON"))?
+        .arg(flag(
+            alloc,
+            "metrics",
+            "Answer in the text format of Prometheus; not with --json",
+        ))
 }
 
 /// Adds the subcommands that make tables, and that look after a server.
@@ -62,7 +53,7 @@ pub(crate) fn with_services<'a>(
 ) -> Result<Command<'a>, AllocError>
     ensures { IfOk result (λ made. app_of made ≡ with_services (app_of command.entry)) }
 {
-    let apply = apply_line(alloc)?;
-    let status = status_line(alloc)?;
-    command.subcommand(apply)?.subcommand(status)
+    command
+        .subcommand(apply_line(alloc)?)?
+        .subcommand(status_line(alloc)?)
 }

@@ -8,9 +8,9 @@ either a b = a || b
 
 pub returns : goal.returns
 returns c =
-    let with_explain = c.in_ok-arg.ensures.shape c.flag-explain.ensures.own ∙ ap₂ with_rule c.in_ok-place.ensures.line c.flag-explain.ensures.rule in
-    let explain_own = c.in_ok-arg.ensures.globals ∙ ap₂ either c.in_ok-place.ensures.own c.flag-explain.ensures.own in
+    let with_explain = c.in_ok-arg.ensures.shape c.flag.ensures.own ∙ ap₂ with_rule c.in_ok-place_line.ensures.line c.flag.ensures.rule in
+    let explain_own = c.in_ok-arg.ensures.globals ∙ ap₂ either c.in_ok-place_line.ensures.own c.flag.ensures.own in
     record {
-      line = IfOk-weaker c.arg-2.result _ _ (λ command added. added.shape c.words_operand-files.ensures.own ∙ ap₂ with_rule with_explain c.words_operand-files.ensures.rule) c.arg-2.ensures;
-      own = IfOk-weaker c.arg-2.result _ _ (λ command added. added.globals ∙ ap₂ either explain_own c.words_operand-files.ensures.own) c.arg-2.ensures;
+      line = IfOk-weaker c.arg-2.result _ _ (λ command added. added.shape c.words_operand.ensures.own ∙ ap₂ with_rule with_explain c.words_operand.ensures.rule) c.arg-2.ensures;
+      own = IfOk-weaker c.arg-2.result _ _ (λ command added. added.globals ∙ ap₂ either explain_own c.words_operand.ensures.own) c.arg-2.ensures;
     }

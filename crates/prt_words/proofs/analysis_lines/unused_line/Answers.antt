@@ -8,6 +8,6 @@ either a b = a || b
 
 pub returns : goal.returns
 returns c = record {
-  line = IfOk-weaker c.arg.result _ _ (λ command added. added.shape c.file_operand-file.ensures.own ∙ ap₂ with_rule c.in_ok-place.ensures.line c.file_operand-file.ensures.rule) c.arg.ensures;
-  own = IfOk-weaker c.arg.result _ _ (λ command added. added.globals ∙ ap₂ either c.in_ok-place.ensures.own c.file_operand-file.ensures.own) c.arg.ensures;
+  line = IfOk-weaker c.arg.result _ _ (λ command added. added.shape c.file_operand.ensures.own ∙ ap₂ with_rule c.in_ok-place_line.ensures.line c.file_operand.ensures.rule) c.arg.ensures;
+  own = IfOk-weaker c.arg.result _ _ (λ command added. added.globals ∙ ap₂ either c.in_ok-place_line.ensures.own c.file_operand.ensures.own) c.arg.ensures;
 }

@@ -9,6 +9,6 @@ top_of app = app.top
 
 pub returns : goal.returns
 returns c =
-    let with_impact = c.in_ok-subcommand.ensures.shape c.in_ok-impact.ensures.own ∙ ap (with_subcommand (app_of c.args.command)) (ap top_of c.in_ok-impact.ensures.line) in
-    let with_assert = c.in_ok-subcommand-2.ensures.shape c.in_ok-assert.ensures.own ∙ ap₂ with_subcommand with_impact (ap top_of c.in_ok-assert.ensures.line) in
-    IfOk-weaker c.subcommand-3.result _ _ (λ command added. added.shape c.in_ok-unused.ensures.own ∙ ap₂ with_subcommand with_assert (ap top_of c.in_ok-unused.ensures.line)) c.subcommand-3.ensures
+    let with_impact = c.in_ok-subcommand.ensures.shape c.in_ok-impact_line.ensures.own ∙ ap (with_subcommand (app_of c.args.command)) (ap top_of c.in_ok-impact_line.ensures.line) in
+    let with_assert = c.in_ok-subcommand-2.ensures.shape c.in_ok-assert_line.ensures.own ∙ ap₂ with_subcommand with_impact (ap top_of c.in_ok-assert_line.ensures.line) in
+    IfOk-weaker c.subcommand-3.result _ _ (λ command added. added.shape c.in_ok-unused_line.ensures.own ∙ ap₂ with_subcommand with_assert (ap top_of c.in_ok-unused_line.ensures.line)) c.subcommand-3.ensures

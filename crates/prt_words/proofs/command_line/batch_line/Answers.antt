@@ -11,17 +11,17 @@ either a b = a || b
 
 pub returns : goal.returns
 returns c =
-    let forced = c.in_ok-arg.ensures.shape c.flag-force.ensures.own ∙ ap₂ with_rule (ap app_of_fields c.about.ensures ∙ c.new.ensures.app) c.flag-force.ensures.rule in
-    let joined = c.in_ok-arg-2.ensures.shape c.flag-atomic.ensures.own ∙ ap₂ with_rule forced c.flag-atomic.ensures.rule in
-    let named = c.in_ok-arg-3.ensures.shape c.database_option-database.ensures.own ∙ ap₂ with_rule joined c.database_option-database.ensures.rule in
-    let served = c.in_ok-arg-4.ensures.shape c.option-server.ensures.own ∙ ap₂ with_rule named c.option-server.ensures.rule in
-    let told = c.in_ok-arg-5.ensures.shape c.flag-verbose.ensures.own ∙ ap₂ with_rule served c.flag-verbose.ensures.rule in
-    let forced_own = c.in_ok-arg.ensures.globals ∙ ap₂ either (ap (λ (fields : Command-F Command). fields.has_globals) c.about.ensures ∙ c.new.ensures.local) c.flag-force.ensures.own in
-    let joined_own = c.in_ok-arg-2.ensures.globals ∙ ap₂ either forced_own c.flag-atomic.ensures.own in
-    let named_own = c.in_ok-arg-3.ensures.globals ∙ ap₂ either joined_own c.database_option-database.ensures.own in
-    let served_own = c.in_ok-arg-4.ensures.globals ∙ ap₂ either named_own c.option-server.ensures.own in
-    let told_own = c.in_ok-arg-5.ensures.globals ∙ ap₂ either served_own c.flag-verbose.ensures.own in
+    let forced = c.in_ok-arg.ensures.shape c.flag.ensures.own ∙ ap₂ with_rule (ap app_of_fields c.about.ensures ∙ c.new.ensures.app) c.flag.ensures.rule in
+    let joined = c.in_ok-arg-2.ensures.shape c.flag-2.ensures.own ∙ ap₂ with_rule forced c.flag-2.ensures.rule in
+    let named = c.in_ok-arg-3.ensures.shape c.database_option.ensures.own ∙ ap₂ with_rule joined c.database_option.ensures.rule in
+    let served = c.in_ok-arg-4.ensures.shape c.option.ensures.own ∙ ap₂ with_rule named c.option.ensures.rule in
+    let told = c.in_ok-arg-5.ensures.shape c.flag-3.ensures.own ∙ ap₂ with_rule served c.flag-3.ensures.rule in
+    let forced_own = c.in_ok-arg.ensures.globals ∙ ap₂ either (ap (λ (fields : Command-F Command). fields.has_globals) c.about.ensures ∙ c.new.ensures.local) c.flag.ensures.own in
+    let joined_own = c.in_ok-arg-2.ensures.globals ∙ ap₂ either forced_own c.flag-2.ensures.own in
+    let named_own = c.in_ok-arg-3.ensures.globals ∙ ap₂ either joined_own c.database_option.ensures.own in
+    let served_own = c.in_ok-arg-4.ensures.globals ∙ ap₂ either named_own c.option.ensures.own in
+    let told_own = c.in_ok-arg-5.ensures.globals ∙ ap₂ either served_own c.flag-3.ensures.own in
     record {
-      line = IfOk-weaker c.arg-6.result _ _ (λ command added. added.shape c.file_operand-file.ensures.own ∙ ap₂ with_rule told c.file_operand-file.ensures.rule) c.arg-6.ensures;
-      own = IfOk-weaker c.arg-6.result _ _ (λ command added. added.globals ∙ ap₂ either told_own c.file_operand-file.ensures.own) c.arg-6.ensures;
+      line = IfOk-weaker c.arg-6.result _ _ (λ command added. added.shape c.file_operand.ensures.own ∙ ap₂ with_rule told c.file_operand.ensures.rule) c.arg-6.ensures;
+      own = IfOk-weaker c.arg-6.result _ _ (λ command added. added.globals ∙ ap₂ either told_own c.file_operand.ensures.own) c.arg-6.ensures;
     }

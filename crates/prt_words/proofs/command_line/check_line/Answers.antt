@@ -8,8 +8,8 @@ use Rattle.prt_words.proofs.command_line.check_line.Goals as goal
 
 pub returns : goal.returns
 returns c = record {
-  line = IfOk-weaker c.arg.result _ _ (λ command added. added.shape c.file_operand-file.ensures.own
-      ∙ ap₂ with_rule (ap app_of_fields c.about.ensures ∙ c.new.ensures.app) c.file_operand-file.ensures.rule) c.arg.ensures;
+  line = IfOk-weaker c.arg.result _ _ (λ command added. added.shape c.file_operand.ensures.own
+      ∙ ap₂ with_rule (ap app_of_fields c.about.ensures ∙ c.new.ensures.app) c.file_operand.ensures.rule) c.arg.ensures;
   own = IfOk-weaker c.arg.result _ _ (λ command added. added.globals
-      ∙ ap₂ (λ a b. a || b) (ap (λ (fields : Command-F Command). fields.has_globals) c.about.ensures ∙ c.new.ensures.local) c.file_operand-file.ensures.own) c.arg.ensures;
+      ∙ ap₂ (λ a b. a || b) (ap (λ (fields : Command-F Command). fields.has_globals) c.about.ensures ∙ c.new.ensures.local) c.file_operand.ensures.own) c.arg.ensures;
 }

@@ -8,6 +8,6 @@ either a b = a || b
 
 pub returns : goal.returns
 returns c = record {
-  line = IfOk-weaker c.arg.result _ _ (λ command added. added.shape c.flag-replace.ensures.own ∙ ap₂ with_rule c.in_ok-tables.ensures.line c.flag-replace.ensures.rule) c.arg.ensures;
-  own = IfOk-weaker c.arg.result _ _ (λ command added. added.globals ∙ ap₂ either c.in_ok-tables.ensures.own c.flag-replace.ensures.own) c.arg.ensures;
+  line = IfOk-weaker c.arg.result _ _ (λ command added. added.shape c.flag.ensures.own ∙ ap₂ with_rule c.in_ok-tables_line.ensures.line c.flag.ensures.rule) c.arg.ensures;
+  own = IfOk-weaker c.arg.result _ _ (λ command added. added.globals ∙ ap₂ either c.in_ok-tables_line.ensures.own c.flag.ensures.own) c.arg.ensures;
 }

@@ -11,9 +11,9 @@ either a b = a || b
 
 pub returns : goal.returns
 returns c =
-    let named = c.in_ok-arg.ensures.shape c.option-database.ensures.own ∙ ap₂ with_rule (ap app_of_fields c.about.ensures ∙ c.new.ensures.app) c.option-database.ensures.rule in
-    let named_own = c.in_ok-arg.ensures.globals ∙ ap₂ either (ap (λ (fields : Command-F Command). fields.has_globals) c.about.ensures ∙ c.new.ensures.local) c.option-database.ensures.own in
+    let named = c.in_ok-arg.ensures.shape c.option.ensures.own ∙ ap₂ with_rule (ap app_of_fields c.about.ensures ∙ c.new.ensures.app) c.option.ensures.rule in
+    let named_own = c.in_ok-arg.ensures.globals ∙ ap₂ either (ap (λ (fields : Command-F Command). fields.has_globals) c.about.ensures ∙ c.new.ensures.local) c.option.ensures.own in
     record {
-      line = IfOk-weaker c.arg-2.result _ _ (λ command added. added.shape c.option-server.ensures.own ∙ ap₂ with_rule named c.option-server.ensures.rule) c.arg-2.ensures;
-      own = IfOk-weaker c.arg-2.result _ _ (λ command added. added.globals ∙ ap₂ either named_own c.option-server.ensures.own) c.arg-2.ensures;
+      line = IfOk-weaker c.arg-2.result _ _ (λ command added. added.shape c.option-2.ensures.own ∙ ap₂ with_rule named c.option-2.ensures.rule) c.arg-2.ensures;
+      own = IfOk-weaker c.arg-2.result _ _ (λ command added. added.globals ∙ ap₂ either named_own c.option-2.ensures.own) c.arg-2.ensures;
     }

@@ -8,6 +8,6 @@ either a b = a || b
 
 pub returns : goal.returns
 returns c = record {
-  line = IfOk-weaker c.arg.result _ _ (λ command added. added.shape c.words_operand-words.ensures.own ∙ ap₂ with_rule c.in_ok-tables.ensures.line c.words_operand-words.ensures.rule) c.arg.ensures;
-  own = IfOk-weaker c.arg.result _ _ (λ command added. added.globals ∙ ap₂ either c.in_ok-tables.ensures.own c.words_operand-words.ensures.own) c.arg.ensures;
+  line = IfOk-weaker c.arg.result _ _ (λ command added. added.shape c.words_operand.ensures.own ∙ ap₂ with_rule c.in_ok-tables_line.ensures.line c.words_operand.ensures.rule) c.arg.ensures;
+  own = IfOk-weaker c.arg.result _ _ (λ command added. added.globals ∙ ap₂ either c.in_ok-tables_line.ensures.own c.words_operand.ensures.own) c.arg.ensures;
 }

@@ -8,9 +8,9 @@ either a b = a || b
 
 pub returns : goal.returns
 returns c =
-    let formed = c.in_ok-arg.ensures.shape c.flag-json.ensures.own ∙ ap₂ with_rule c.in_ok-place.ensures.line c.flag-json.ensures.rule in
-    let formed_own = c.in_ok-arg.ensures.globals ∙ ap₂ either c.in_ok-place.ensures.own c.flag-json.ensures.own in
+    let formed = c.in_ok-arg.ensures.shape c.flag.ensures.own ∙ ap₂ with_rule c.in_ok-place_line.ensures.line c.flag.ensures.rule in
+    let formed_own = c.in_ok-arg.ensures.globals ∙ ap₂ either c.in_ok-place_line.ensures.own c.flag.ensures.own in
     record {
-      line = IfOk-weaker c.arg-2.result _ _ (λ command added. added.shape c.flag-names.ensures.own ∙ ap₂ with_rule formed c.flag-names.ensures.rule) c.arg-2.ensures;
-      own = IfOk-weaker c.arg-2.result _ _ (λ command added. added.globals ∙ ap₂ either formed_own c.flag-names.ensures.own) c.arg-2.ensures;
+      line = IfOk-weaker c.arg-2.result _ _ (λ command added. added.shape c.flag-2.ensures.own ∙ ap₂ with_rule formed c.flag-2.ensures.rule) c.arg-2.ensures;
+      own = IfOk-weaker c.arg-2.result _ _ (λ command added. added.globals ∙ ap₂ either formed_own c.flag-2.ensures.own) c.arg-2.ensures;
     }

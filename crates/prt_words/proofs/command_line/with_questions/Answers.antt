@@ -9,11 +9,11 @@ top_of app = app.top
 
 pub returns : goal.returns
 returns c =
-    let with_get = c.in_ok-subcommand.ensures.shape c.in_ok-get.ensures.own ∙ ap (with_subcommand (app_of c.args.command)) (ap top_of c.in_ok-get.ensures.line) in
-    let with_show = c.in_ok-subcommand-2.ensures.shape c.in_ok-show.ensures.own ∙ ap₂ with_subcommand with_get (ap top_of c.in_ok-show.ensures.line) in
-    let with_explain = c.in_ok-subcommand-3.ensures.shape c.in_ok-explain.ensures.own ∙ ap₂ with_subcommand with_show (ap top_of c.in_ok-explain.ensures.line) in
-    let with_dump = c.in_ok-subcommand-4.ensures.shape c.in_ok-dump.ensures.own ∙ ap₂ with_subcommand with_explain (ap top_of c.in_ok-dump.ensures.line) in
-    let with_diff = c.in_ok-subcommand-5.ensures.shape c.in_ok-diff.ensures.own ∙ ap₂ with_subcommand with_dump (ap top_of c.in_ok-diff.ensures.line) in
-    let with_follow = c.in_ok-subcommand-6.ensures.shape c.in_ok-follow.ensures.own ∙ ap₂ with_subcommand with_diff (ap top_of c.in_ok-follow.ensures.line) in
-    let with_wait = c.in_ok-subcommand-7.ensures.shape c.in_ok-wait.ensures.own ∙ ap₂ with_subcommand with_follow (ap top_of c.in_ok-wait.ensures.line) in
-    IfOk-weaker c.subcommand-8.result _ _ (λ command added. added.shape c.in_ok-import.ensures.own ∙ ap₂ with_subcommand with_wait (ap top_of c.in_ok-import.ensures.line)) c.subcommand-8.ensures
+    let with_get = c.in_ok-subcommand.ensures.shape c.in_ok-get_line.ensures.own ∙ ap (with_subcommand (app_of c.args.command)) (ap top_of c.in_ok-get_line.ensures.line) in
+    let with_show = c.in_ok-subcommand-2.ensures.shape c.in_ok-show_line.ensures.own ∙ ap₂ with_subcommand with_get (ap top_of c.in_ok-show_line.ensures.line) in
+    let with_explain = c.in_ok-subcommand-3.ensures.shape c.in_ok-explain_line.ensures.own ∙ ap₂ with_subcommand with_show (ap top_of c.in_ok-explain_line.ensures.line) in
+    let with_dump = c.in_ok-subcommand-4.ensures.shape c.in_ok-dump_line.ensures.own ∙ ap₂ with_subcommand with_explain (ap top_of c.in_ok-dump_line.ensures.line) in
+    let with_diff = c.in_ok-subcommand-5.ensures.shape c.in_ok-diff_line.ensures.own ∙ ap₂ with_subcommand with_dump (ap top_of c.in_ok-diff_line.ensures.line) in
+    let with_follow = c.in_ok-subcommand-6.ensures.shape c.in_ok-follow_line.ensures.own ∙ ap₂ with_subcommand with_diff (ap top_of c.in_ok-follow_line.ensures.line) in
+    let with_wait = c.in_ok-subcommand-7.ensures.shape c.in_ok-wait_line.ensures.own ∙ ap₂ with_subcommand with_follow (ap top_of c.in_ok-wait_line.ensures.line) in
+    IfOk-weaker c.subcommand-8.result _ _ (λ command added. added.shape c.in_ok-import_line.ensures.own ∙ ap₂ with_subcommand with_wait (ap top_of c.in_ok-import_line.ensures.line)) c.subcommand-8.ensures

@@ -10,9 +10,9 @@ either a b = a || b
 pub returns : goal.returns
 returns c =
     let reaching = c.in_ok-with_reach.ensures.line ∙ ap with_reach c.in_ok-server.ensures.line in
-    let flagged = c.in_ok-arg.ensures.shape c.flag-once.ensures.own ∙ ap₂ with_rule reaching c.flag-once.ensures.rule in
-    let flagged_own = c.in_ok-arg.ensures.globals ∙ ap₂ either (c.in_ok-with_reach.ensures.own c.in_ok-server.ensures.own) c.flag-once.ensures.own in
+    let flagged = c.in_ok-arg.ensures.shape c.flag.ensures.own ∙ ap₂ with_rule reaching c.flag.ensures.rule in
+    let flagged_own = c.in_ok-arg.ensures.globals ∙ ap₂ either (c.in_ok-with_reach.ensures.own c.in_ok-server.ensures.own) c.flag.ensures.own in
     record {
-      line = IfOk-weaker c.arg-2.result _ _ (λ command added. added.shape c.listing_operand-file.ensures.own ∙ ap₂ with_rule flagged c.listing_operand-file.ensures.rule) c.arg-2.ensures;
-      own = IfOk-weaker c.arg-2.result _ _ (λ command added. added.globals ∙ ap₂ either flagged_own c.listing_operand-file.ensures.own) c.arg-2.ensures;
+      line = IfOk-weaker c.arg-2.result _ _ (λ command added. added.shape c.listing_operand.ensures.own ∙ ap₂ with_rule flagged c.listing_operand.ensures.rule) c.arg-2.ensures;
+      own = IfOk-weaker c.arg-2.result _ _ (λ command added. added.globals ∙ ap₂ either flagged_own c.listing_operand.ensures.own) c.arg-2.ensures;
     }

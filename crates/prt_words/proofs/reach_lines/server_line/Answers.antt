@@ -11,8 +11,8 @@ either a b = a || b
 
 pub returns : goal.returns
 returns c = record {
-  line = IfOk-weaker c.arg.result _ _ (λ command added. added.shape c.needed_option-server.ensures.own
-      ∙ ap₂ with_rule (ap app_of_fields c.about.ensures ∙ c.new.ensures.app) c.needed_option-server.ensures.rule) c.arg.ensures;
+  line = IfOk-weaker c.arg.result _ _ (λ command added. added.shape c.needed_option.ensures.own
+      ∙ ap₂ with_rule (ap app_of_fields c.about.ensures ∙ c.new.ensures.app) c.needed_option.ensures.rule) c.arg.ensures;
   own = IfOk-weaker c.arg.result _ _ (λ command added. added.globals
-      ∙ ap₂ either (ap (λ (fields : Command-F Command). fields.has_globals) c.about.ensures ∙ c.new.ensures.local) c.needed_option-server.ensures.own) c.arg.ensures;
+      ∙ ap₂ either (ap (λ (fields : Command-F Command). fields.has_globals) c.about.ensures ∙ c.new.ensures.local) c.needed_option.ensures.own) c.arg.ensures;
 }

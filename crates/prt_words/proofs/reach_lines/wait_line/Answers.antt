@@ -8,6 +8,6 @@ either a b = a || b
 
 pub returns : goal.returns
 returns c = record {
-  line = IfOk-weaker c.arg.result _ _ (λ command added. added.shape c.number_option-seconds.ensures.own ∙ ap₂ with_rule c.in_ok-server.ensures.line c.number_option-seconds.ensures.rule) c.arg.ensures;
-  own = IfOk-weaker c.arg.result _ _ (λ command added. added.globals ∙ ap₂ either c.in_ok-server.ensures.own c.number_option-seconds.ensures.own) c.arg.ensures;
+  line = IfOk-weaker c.arg.result _ _ (λ command added. added.shape c.number_option.ensures.own ∙ ap₂ with_rule c.in_ok-server_line.ensures.line c.number_option.ensures.rule) c.arg.ensures;
+  own = IfOk-weaker c.arg.result _ _ (λ command added. added.globals ∙ ap₂ either c.in_ok-server_line.ensures.own c.number_option.ensures.own) c.arg.ensures;
 }

@@ -8,13 +8,13 @@ either a b = a || b
 
 pub returns : goal.returns
 returns c =
-    let with_atomic = c.in_ok-arg.ensures.shape c.option-atomic.ensures.own ∙ ap₂ with_rule c.in_ok-place.ensures.line c.option-atomic.ensures.rule in
-    let atomic_own = c.in_ok-arg.ensures.globals ∙ ap₂ either c.in_ok-place.ensures.own c.option-atomic.ensures.own in
-    let with_dry_run = c.in_ok-arg-2.ensures.shape c.flag-dry_run.ensures.own ∙ ap₂ with_rule with_atomic c.flag-dry_run.ensures.rule in
-    let dry_run_own = c.in_ok-arg-2.ensures.globals ∙ ap₂ either atomic_own c.flag-dry_run.ensures.own in
-    let with_impact = c.in_ok-arg-3.ensures.shape c.flag-impact.ensures.own ∙ ap₂ with_rule with_dry_run c.flag-impact.ensures.rule in
-    let impact_own = c.in_ok-arg-3.ensures.globals ∙ ap₂ either dry_run_own c.flag-impact.ensures.own in
+    let with_atomic = c.in_ok-arg.ensures.shape c.option.ensures.own ∙ ap₂ with_rule c.in_ok-place_line.ensures.line c.option.ensures.rule in
+    let atomic_own = c.in_ok-arg.ensures.globals ∙ ap₂ either c.in_ok-place_line.ensures.own c.option.ensures.own in
+    let with_dry_run = c.in_ok-arg-2.ensures.shape c.flag.ensures.own ∙ ap₂ with_rule with_atomic c.flag.ensures.rule in
+    let dry_run_own = c.in_ok-arg-2.ensures.globals ∙ ap₂ either atomic_own c.flag.ensures.own in
+    let with_impact = c.in_ok-arg-3.ensures.shape c.flag-2.ensures.own ∙ ap₂ with_rule with_dry_run c.flag-2.ensures.rule in
+    let impact_own = c.in_ok-arg-3.ensures.globals ∙ ap₂ either dry_run_own c.flag-2.ensures.own in
     record {
-      line = IfOk-weaker c.arg-4.result _ _ (λ command added. added.shape c.file_operand-file.ensures.own ∙ ap₂ with_rule with_impact c.file_operand-file.ensures.rule) c.arg-4.ensures;
-      own = IfOk-weaker c.arg-4.result _ _ (λ command added. added.globals ∙ ap₂ either impact_own c.file_operand-file.ensures.own) c.arg-4.ensures;
+      line = IfOk-weaker c.arg-4.result _ _ (λ command added. added.shape c.file_operand.ensures.own ∙ ap₂ with_rule with_impact c.file_operand.ensures.rule) c.arg-4.ensures;
+      own = IfOk-weaker c.arg-4.result _ _ (λ command added. added.globals ∙ ap₂ either impact_own c.file_operand.ensures.own) c.arg-4.ensures;
     }

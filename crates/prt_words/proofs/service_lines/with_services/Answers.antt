@@ -9,5 +9,5 @@ top_of app = app.top
 
 pub returns : goal.returns
 returns c =
-    let with_apply = c.in_ok-subcommand.ensures.shape c.in_ok-apply.ensures.own ∙ ap (with_subcommand (app_of c.args.command)) (ap top_of c.in_ok-apply.ensures.line) in
-    IfOk-weaker c.subcommand-2.result _ _ (λ command added. added.shape c.in_ok-status.ensures.own ∙ ap₂ with_subcommand with_apply (ap top_of c.in_ok-status.ensures.line)) c.subcommand-2.ensures
+    let with_apply = c.in_ok-subcommand.ensures.shape c.in_ok-apply_line.ensures.own ∙ ap (with_subcommand (app_of c.args.command)) (ap top_of c.in_ok-apply_line.ensures.line) in
+    IfOk-weaker c.subcommand-2.result _ _ (λ command added. added.shape c.in_ok-status_line.ensures.own ∙ ap₂ with_subcommand with_apply (ap top_of c.in_ok-status_line.ensures.line)) c.subcommand-2.ensures
