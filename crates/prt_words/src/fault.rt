@@ -147,25 +147,41 @@ impl From<AllocError> for BadQuestion {
     }
 }
 
-/// Builds the name of the program with a question's subcommand, and which words may follow it.
-fn asking_line<'a>(
-    alloc: Global,
-    word: QuestionWord,
-) -> Result<(&'static str, Command<'a>), AllocError> {
+/// Names the program with a question's subcommand.
+fn asking_name(word: QuestionWord) -> &'static str {
     match word {
-        QuestionWord::Tables(Verb::Get) => Ok(("prt get", get_line(alloc)?)),
-        QuestionWord::Tables(Verb::Show) => Ok(("prt show", show_line(alloc)?)),
-        QuestionWord::Tables(Verb::Explain) => Ok(("prt explain", explain_line(alloc)?)),
-        QuestionWord::Tables(Verb::Dump | Verb::Replace) => { Ok(("prt dump", dump_line(alloc)?)) }
-        QuestionWord::Diff => Ok(("prt diff", diff_line(alloc)?)),
-        QuestionWord::Follow => Ok(("prt follow", follow_line(alloc)?)),
-        QuestionWord::Wait => Ok(("prt wait", wait_line(alloc)?)),
-        QuestionWord::Import => Ok(("prt import", import_line(alloc)?)),
-        QuestionWord::Impact => Ok(("prt impact", impact_line(alloc)?)),
-        QuestionWord::Assert => Ok(("prt assert", assert_line(alloc)?)),
-        QuestionWord::Unused => Ok(("prt unused", unused_line(alloc)?)),
-        QuestionWord::Apply => Ok(("prt apply", apply_line(alloc)?)),
-        QuestionWord::Status => Ok(("prt status", status_line(alloc)?)),
+        QuestionWord::Tables(Verb::Get) => "prt get",
+        QuestionWord::Tables(Verb::Show) => "prt show",
+        QuestionWord::Tables(Verb::Explain) => "prt explain",
+        QuestionWord::Tables(Verb::Dump | Verb::Replace) => "prt dump",
+        QuestionWord::Diff => "prt diff",
+        QuestionWord::Follow => "prt follow",
+        QuestionWord::Wait => "prt wait",
+        QuestionWord::Import => "prt import",
+        QuestionWord::Impact => "prt impact",
+        QuestionWord::Assert => "prt assert",
+        QuestionWord::Unused => "prt unused",
+        QuestionWord::Apply => "prt apply",
+        QuestionWord::Status => "prt status",
+    }
+}
+
+/// Says which words may follow a question's subcommand.
+fn asking_line<'a>(alloc: Global, word: QuestionWord) -> Result<Command<'a>, AllocError> {
+    match word {
+        QuestionWord::Tables(Verb::Get) => get_line(alloc),
+        QuestionWord::Tables(Verb::Show) => show_line(alloc),
+        QuestionWord::Tables(Verb::Explain) => explain_line(alloc),
+        QuestionWord::Tables(Verb::Dump | Verb::Replace) => dump_line(alloc),
+        QuestionWord::Diff => diff_line(alloc),
+        QuestionWord::Follow => follow_line(alloc),
+        QuestionWord::Wait => wait_line(alloc),
+        QuestionWord::Import => import_line(alloc),
+        QuestionWord::Impact => impact_line(alloc),
+        QuestionWord::Assert => assert_line(alloc),
+        QuestionWord::Unused => unused_line(alloc),
+        QuestionWord::Apply => apply_line(alloc),
+        QuestionWord::Status => status_line(alloc),
     }
 }
 
@@ -173,8 +189,9 @@ fn asking_line<'a>(
 fn asking_error(alloc: Global, word: QuestionWord, text: &str) -> Result<clap::Error, AllocError>
     ensures { IfOk result (λ error. kind_of error ≡ ErrorKind.ValueValidation) }
 {
-    let (name, line) = asking_line(alloc, word)?;
-    line.bin_name(name)?.error(ErrorKind::ValueValidation, text)
+    asking_line(alloc, word)?
+        .bin_name(asking_name(word))?
+        .error(ErrorKind::ValueValidation, text)
 }
 
 /// Builds the fault of what is wrong with the words of a question, in this text.
