@@ -1,13 +1,30 @@
 //! The history of a front, in a logbook: what its tokens say, and the step that adds commands.
 
 use logbook::{Gain, Opening, Plain, Play, Rule, Word};
-use prt_version::{Command, Version};
+use prt_version::{Command, Route, Version};
+use std::marker::Model;
 use std::snapshot::Snapshot;
+
+/// What a version holds. No value of it is made, and contracts see it as the state. It is no `Version`, so that tokens
+/// of what is known don't bring the tries of one into the types of all that has them.
+pub struct LoadedState {
+    count: u64,
+    rules: Vec<prt_version::Rule>,
+    routes: Vec<Route>,
+}
+
+impl Model for LoadedState {
+    ghost use Rattle.prt_version.specs.State.{State};
+
+    ghost Value = { State };
+
+    ghost view = { λ loaded. record { count = loaded.count; rules = loaded.rules.items; routes = loaded.routes.items } };
+}
 
 /// An entry of the history. No value of it is made.
 pub enum Entry {
     /// The state that the front began with.
-    Loaded(Version),
+    Loaded(LoadedState),
     /// A command that was accepted.
     Accepted(Command),
     /// Commands that are to be accepted together. No history has such an entry: a step asks for it, and adds one for each.

@@ -18,7 +18,7 @@ pub enum Cause {
     Tables(Reason),
     #[error("{0}")]
     Library(LibraryError),
-    #[error("{0}: a server has it, which --server queries")]
+    #[error("{0}: another program has it; if that is prt serve, use --server")]
     Locked(LibraryError),
     #[error("{0}: another program has it, such as prt serve")]
     InUse(LibraryError),

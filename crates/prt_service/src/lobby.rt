@@ -1,5 +1,5 @@
 //! Where commands wait for the next group.
-ghost use Rattle.std.specs.Prelude.{◌≡◌, []};
+ghost use Rattle.std.specs.Prelude.{◌≡◌, [], length};
 ghost use Rattle.prt_service.specs.Lobby.{HasEntered};
 
 use crate::Naming;
@@ -7,14 +7,23 @@ use crate::waiting::Waiting;
 use std::alloc::Global;
 use std::marker::Model;
 use std::mem;
+use std::time::Duration;
 
 /// How many commands wait at most, and are submitted together.
 const MOST_WAITING: usize = 64;
+
+/// The part of what the last group took that the next one waits at a time, if that was a millisecond or more.
+const PAUSES_OF_GROUP: u32 = 16;
+
+/// For how many milliseconds the next group waits at a time at most.
+const LONGEST_PAUSE: u64 = 1;
 
 /// The commands that wait, in the order in which they came. Contracts see it as their list.
 #[derive(Drop)]
 pub(crate) struct Lobby<J: Naming> {
     waiting: Vec<Waiting<J>>,
+    /// For how long the next group waits at a time for clients that were answered with the last one.
+    pause: Duration,
 }
 
 impl<J: Naming> Model for Lobby<J> {
@@ -42,6 +51,7 @@ impl<J: Naming> Lobby<J> {
     {
         Lobby {
             waiting: Vec::new(alloc),
+            pause: Duration::ZERO,
         }
     }
 
@@ -67,4 +77,33 @@ impl<J: Naming> Lobby<J> {
     {
         mem::replace(&mut self.waiting, Vec::new(alloc))
     }
+
+    /// Returns how many wait.
+    pub(crate) fn len(&self) -> usize
+        ensures { result ≡ length self.now }
+    {
+        self.waiting.len()
+    }
+
+    /// Notes how many commands the last group had, and how long it took.
+    pub(crate) fn note_group(&mut self, commands: usize, took: Duration)
+        ensures { self.new ≡ self.old }
+    {
+        self.pause = pause_after(commands, took);
+    }
+
+    /// Returns for how long the next group waits at a time; 0 if it doesn't.
+    pub(crate) fn pause(&self) -> Duration {
+        self.pause
+    }
+}
+
+/// Computes for how long a group waits at a time after one of so many commands that took so long. After one command, or on a
+/// disk so quick that a pause costs more than it gains, it doesn't wait.
+fn pause_after(commands: usize, took: Duration) -> Duration {
+    if commands < 2 || took.as_millis() == 0 {
+        return Duration::ZERO;
+    }
+    let part = took / PAUSES_OF_GROUP;
+    part.min(Duration::from_millis(LONGEST_PAUSE))
 }

@@ -39,6 +39,9 @@ const PAUSE: u64 = 5;
 /// How often a command waits for room: for a second in all.
 const MOST_PAUSES: u32 = 200;
 
+/// How often a group waits at most for clients that were answered with the last one.
+const MOST_WAITS: u32 = 4;
+
 /// A publisher, its domain and the readers that no looker has, for any number of threads.
 ///
 /// The publisher lies under a lock: whenever nobody holds it, the publisher is ready, and the published state is stored,
@@ -149,16 +152,36 @@ impl<S: Alter + Drop, J: Naming> Service<S, J> {
         replies.recv(rt).ok()?.for_command(command)
     }
 
+    /// Waits for clients that were answered with the last group, as long as more of them come back. Without it half of
+    /// them would be on their way while the other half is stored, and each sync would serve half as many.
+    fn await_others<W: Wait + Clock>(&self, rt: &W) {
+        let pause = self.lobby.lock(rt).pause();
+        if pause.is_zero() {
+            return;
+        }
+        let mut before = 0;
+        for _ in 0..MOST_WAITS {
+            let waiting = self.lobby.lock(rt).len();
+            if waiting == before {
+                return;
+            }
+            before = waiting;
+            thread::sleep(rt, pause);
+        }
+    }
+
     /// Submits the commands that wait once the publisher is free, and answers those that were submitted.
     fn submit_waiting<W: Wait + Clock>(&self, rt: &W) {
         let mut publisher = self.publisher.lock(rt);
+        self.await_others(rt);
         let waiting = self.lobby.lock(rt).take_all(self.alloc);
         let watch = Stopwatch::start(rt);
         let submitted = submit_waiting(&mut publisher, rt, self.alloc, &self.domain, waiting);
         let commit = watch.stop(rt);
         if let Some(submitted) = submitted {
-            let commands = submitted.waiting.len() as u64;
-            note(&mut publisher, commands, &submitted.became, commit);
+            let commands = submitted.waiting.len();
+            note(&mut publisher, commands as u64, &submitted.became, commit);
+            self.lobby.lock(rt).note_group(commands, commit.took);
             // Sends the answers under the lock: those that are answered then come back in time for the next group.
             submitted.answer(rt);
         }
