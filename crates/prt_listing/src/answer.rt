@@ -31,6 +31,7 @@ pub(crate) fn push_answer(out: &mut Vec<u8>, answer: &Answer) -> Result<(), Allo
     ensures ok { OnOk result (out.new.items ≡ out.old.items ++ answer_text answer.now) }
     ensures err { OnErr result (Keeps out.old.items out.new.items) }
 {
+    out.reserve(ROOM)?;
     let number = Part::Named("answer", Value::Number(answer.number));
     match &answer.verdict {
         Verdict::Route(priority, route) => {
@@ -66,7 +67,6 @@ pub fn answer_text(out: &mut Vec<u8>, answer: &Answer) -> Result<(), Refusal>
     ensures err { OnErr result (out.new.items ≡ out.old.items) }
     ensures reason { IsOkUnless result NoMemory }
 {
-    out.reserve(ROOM)?;
     let len = out.len();
     let pushed = push_answer(out, answer);
     whole_or_nothing(out, len, pushed)

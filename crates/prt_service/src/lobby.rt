@@ -12,8 +12,11 @@ use std::time::Duration;
 /// How many commands wait at most, and are submitted together.
 const MOST_WAITING: usize = 64;
 
-/// The part of what the last group took that the next one waits at a time, if that was a millisecond or more.
+/// The part of what the last group took that the next one waits at a time.
 const PAUSES_OF_GROUP: u32 = 16;
+
+/// How many milliseconds a group takes at least that is worth a pause.
+const LEAST_WORTH: u128 = 2;
 
 /// For how many milliseconds the next group waits at a time at most.
 const LONGEST_PAUSE: u64 = 1;
@@ -22,6 +25,8 @@ const LONGEST_PAUSE: u64 = 1;
 #[derive(Drop)]
 pub(crate) struct Lobby<J: Naming> {
     waiting: Vec<Waiting<J>>,
+    /// How many commands the last group had.
+    answered: usize,
     /// For how long the next group waits at a time for clients that were answered with the last one.
     pause: Duration,
 }
@@ -51,6 +56,7 @@ impl<J: Naming> Lobby<J> {
     {
         Lobby {
             waiting: Vec::new(alloc),
+            answered: 0,
             pause: Duration::ZERO,
         }
     }
@@ -89,19 +95,25 @@ impl<J: Naming> Lobby<J> {
     pub(crate) fn note_group(&mut self, commands: usize, took: Duration)
         ensures { self.new ≡ self.old }
     {
-        self.pause = pause_after(commands, took);
+        self.answered = commands;
+        self.pause = pause_after(took);
     }
 
-    /// Returns for how long the next group waits at a time; 0 if it doesn't.
-    pub(crate) fn pause(&self) -> Duration {
+    /// Computes for how long the next group waits until it looks again. That is 0 if as many wait as were answered with the
+    /// last one, or no more than the last time.
+    pub(crate) fn pause_since(&self, before: usize) -> Duration {
+        let waiting = self.waiting.len();
+        if waiting <= before || waiting >= self.answered {
+            return Duration::ZERO;
+        }
         self.pause
     }
 }
 
-/// Computes for how long a group waits at a time after one of so many commands that took so long. After one command, or on a
-/// disk so quick that a pause costs more than it gains, it doesn't wait.
-fn pause_after(commands: usize, took: Duration) -> Duration {
-    if commands < 2 || took.as_millis() == 0 {
+/// Computes for how long a group waits at a time after one that took so long. On a quick disk a pause would cost more than
+/// it gains.
+fn pause_after(took: Duration) -> Duration {
+    if took.as_millis() < LEAST_WORTH {
         return Duration::ZERO;
     }
     let part = took / PAUSES_OF_GROUP;

@@ -155,17 +155,13 @@ impl<S: Alter + Drop, J: Naming> Service<S, J> {
     /// Waits for clients that were answered with the last group, as long as more of them come back. Without it half of
     /// them would be on their way while the other half is stored, and each sync would serve half as many.
     fn await_others<W: Wait + Clock>(&self, rt: &W) {
-        let pause = self.lobby.lock(rt).pause();
-        if pause.is_zero() {
-            return;
-        }
         let mut before = 0;
         for _ in 0..MOST_WAITS {
-            let waiting = self.lobby.lock(rt).len();
-            if waiting == before {
+            let pause = self.lobby.lock(rt).pause_since(before);
+            if pause.is_zero() {
                 return;
             }
-            before = waiting;
+            before = self.lobby.lock(rt).len();
             thread::sleep(rt, pause);
         }
     }
