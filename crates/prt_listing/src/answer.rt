@@ -27,11 +27,10 @@ fn rule_part(priority: u32) -> Part
 /// # Errors
 ///
 /// Memory is refused; a part of the text may follow what `out` had.
-pub(crate) fn push_answer(out: &mut Vec<u8>, answer: &Answer) -> Result<(), AllocError>
+fn push_answer(out: &mut Vec<u8>, answer: &Answer) -> Result<(), AllocError>
     ensures ok { OnOk result (out.new.items ≡ out.old.items ++ answer_text answer.now) }
     ensures err { OnErr result (Keeps out.old.items out.new.items) }
 {
-    out.reserve(ROOM)?;
     let number = Part::Named("answer", Value::Number(answer.number));
     match &answer.verdict {
         Verdict::Route(priority, route) => {
@@ -57,6 +56,15 @@ pub(crate) fn push_answer(out: &mut Vec<u8>, answer: &Answer) -> Result<(), Allo
     }
 }
 
+/// Appends an answer as `push_answer` does, and takes the room for it at once.
+pub(crate) fn push_with_room(out: &mut Vec<u8>, answer: &Answer) -> Result<(), AllocError>
+    ensures ok { OnOk result (out.new.items ≡ out.old.items ++ answer_text answer.now) }
+    ensures err { OnErr result (Keeps out.old.items out.new.items) }
+{
+    out.reserve(ROOM)?;
+    push_answer(out, answer)
+}
+
 /// Appends an answer: the number of its version, and the rule that decides with its route or action, or `none`.
 ///
 /// # Errors
@@ -68,6 +76,6 @@ pub fn answer_text(out: &mut Vec<u8>, answer: &Answer) -> Result<(), Refusal>
     ensures reason { IsOkUnless result NoMemory }
 {
     let len = out.len();
-    let pushed = push_answer(out, answer);
+    let pushed = push_with_room(out, answer);
     whole_or_nothing(out, len, pushed)
 }

@@ -6,7 +6,7 @@ ghost use Rattle.prt_listing.specs.QueryText.{lines_text, query_text, table_show
 ghost use Rattle.prt_listing.specs.RouteText.{route_text};
 ghost use Rattle.prt_listing.specs.RuleText.{rule_text};
 
-use crate::answer::push_answer;
+use crate::answer::push_with_room;
 use crate::push::{push_number, push_text, whole_or_nothing};
 use crate::route::{TablePart, push_route};
 use crate::rule::push_rule;
@@ -106,7 +106,7 @@ fn push_query(out: &mut Vec<u8>, version: &Version, query: &Query) -> Result<(),
             push_end(out, version.rules().len())
         }
         Query::Get(packet) => {
-            push_answer(out, &version.select(packet))?;
+            push_with_room(out, &version.select(packet))?;
             push_text(out, "\n")
         }
     }
