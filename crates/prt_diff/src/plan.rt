@@ -4,12 +4,13 @@ ghost use Rattle.prt_addr.specs.Rising.{IsRising};
 ghost use Rattle.prt_route.specs.Route.{is_listed_before};
 ghost use Rattle.prt_diff.specs.Plan.{added, bring_all, brought, clear_all, cleared, delete_routes, deleted, deleted_early, left, moved, moved_or_left, nothing_yet, plan_of, remove_all, removed, replace_routes};
 ghost use Rattle.prt_diff.specs.Routes.{in_turn, unwanted_routes};
+ghost use Rattle.prt_diff.specs.Rules.{going_rules};
 
 use crate::commands::{add_rule, delete_rule};
 use crate::fence::Fence;
 use crate::held::Held;
 use crate::routes::{push_in_turn, push_unwanted_routes};
-use crate::rules::{has_rule, insert_rule, is_first_taken, remove_rule};
+use crate::rules::{going_rules, has_rule, insert_rule, is_first_taken, remove_rule};
 use prt_command::Command;
 use prt_route::Route;
 use prt_rule::Rule;
@@ -52,6 +53,18 @@ impl Changes {
         ensures { OnOk result (plan_of self.new ≡ replace_routes (in_turn routes.now) (plan_of self.old)) }
     {
         push_in_turn(&mut self.commands, routes)
+    }
+
+    /// Collects the rules that go now.
+    pub(crate) fn going(
+        &self,
+        alloc: Global,
+        fence: &Fence,
+        wanted: &[Rule],
+    ) -> Result<Vec<Rule>, AllocError>
+        ensures { IfOk result (λ rules. rules.items ≡ going_rules fence.now (plan_of self.now).rules wanted.now) }
+    {
+        going_rules(alloc, fence, &self.rules, wanted)
     }
 
     /// Deletes the routes whose key no wanted one has.
