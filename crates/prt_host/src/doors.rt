@@ -124,7 +124,7 @@ impl<N: ServerNet> Doors<N> {
         let path = format!(in alloc; "{directory}/{}", socket.name())?;
         self.files.reserve(1)?;
         let listener = rt.at_path(files, &path)?;
-        self.files.push(path)?;
+        self.files.push_reserved(path);
         self.add(socket, listener)
     }
 
@@ -171,22 +171,6 @@ fn bind_and_tell<N: ServerNet, W: Write>(
     Ok(door)
 }
 
-/// As `bind_and_tell`, whose error names the place.
-fn listen_at<N: ServerNet, W: Write>(
-    rt: &N,
-    place: SocketAddrV4,
-    word: &str,
-    output: &mut W,
-) -> Result<N::Door, NotListened<'static>> {
-    match bind_and_tell(rt, place, word, output) {
-        Ok(door) => Ok(door),
-        Err(error) => Err(NotListened {
-            place: Place::Address(place),
-            error: ListenError::System(error),
-        }),
-    }
-}
-
 /// Says on `output` in which directory the sockets are.
 fn tell_directory<W: Write>(directory: &str, output: &mut W) -> io::Result<()> {
     write!(output, "sockets {directory}\n")?;
@@ -204,6 +188,25 @@ fn named(place: Place<'_>, done: io::Result<()>) -> Result<(), NotListened<'_>> 
     }
 }
 
+/// Listens at a port for what a socket is for, if one is asked for, and says where on `output`, after this word.
+fn open_port<N: ServerNet, W: Write>(
+    doors: &mut Doors<N>,
+    rt: &N,
+    socket: Socket,
+    asked: Option<SocketAddrV4>,
+    word: &str,
+    output: &mut W,
+) -> Result<(), NotListened<'static>> {
+    let Some(place) = asked else {
+        return Ok(());
+    };
+    let done = match bind_and_tell(rt, place, word, output) {
+        Ok(door) => doors.add(socket, door),
+        Err(error) => Err(error),
+    };
+    named(Place::Address(place), done)
+}
+
 /// Listens at the ports that are asked for.
 fn open_ports<N: ServerNet, W: Write>(
     doors: &mut Doors<N>,
@@ -211,25 +214,16 @@ fn open_ports<N: ServerNet, W: Write>(
     asked: &Serving<'_>,
     output: &mut W,
 ) -> Result<(), NotListened<'static>> {
-    if let Some(place) = asked.listen {
-        let door = listen_at(rt, place, "listening", output)?;
-        named(
-            Place::Address(place),
-            doors.add_sessions(door, Kind::InTurn),
-        )?;
-    }
-    if let Some(place) = asked.atomic {
-        let door = listen_at(rt, place, "atomic", output)?;
-        named(
-            Place::Address(place),
-            doors.add_sessions(door, Kind::Together),
-        )?;
-    }
-    if let Some(place) = asked.feed {
-        let door = listen_at(rt, place, "feeding", output)?;
-        named(Place::Address(place), doors.add(Socket::Feed, door))?;
-    }
-    Ok(())
+    open_port(
+        doors,
+        rt,
+        Socket::Session,
+        asked.listen,
+        "listening",
+        output,
+    )?;
+    open_port(doors, rt, Socket::Atomic, asked.atomic, "atomic", output)?;
+    open_port(doors, rt, Socket::Feed, asked.feed, "feeding", output)
 }
 
 /// Listens at all places that are asked for.

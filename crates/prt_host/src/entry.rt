@@ -7,7 +7,7 @@ ghost use Rattle.prt_words.specs.Invocation.{arguments, invocation};
 use crate::door::ServerNet;
 use crate::server::serve;
 use crate::status::Measures;
-use crate::telling::tell_failure;
+use crate::telling::{tell_failure, tell_failures};
 use prt_program::{Next, Noting, ReadFiles, program};
 use prt_questions::{DatabaseFiles, Machine, answer_question, submit_script};
 use sqlite::{Alter, Connection};
@@ -51,16 +51,14 @@ where
 {
     let files = databases.files;
     let next = program(files, databases, alloc, words, input, output, &mut errors);
-    tell_failure(alloc, "standard input", input, &mut errors);
-    tell_failure(alloc, "standard output", output, &mut errors);
+    tell_failures(alloc, input, output, &mut errors);
     match next {
         Next::Exit(status) => status,
         Next::Serve(serving) => serve(databases, alloc, &serving, output, errors),
         Next::Submit(submitting) => {
             let (files, rt) = (databases.files, databases.rt);
             let status = submit_script(files, &rt, alloc, &submitting, input, output, &mut errors);
-            tell_failure(alloc, "standard input", input, &mut errors);
-            tell_failure(alloc, "standard output", output, &mut errors);
+            tell_failures(alloc, input, output, &mut errors);
             status
         }
         Next::Ask(asked) => {

@@ -1,6 +1,7 @@
 //! The server: a database that is opened, served and closed.
-ghost use Rattle.std.specs.Prelude.{◌≡◌, ◌≢◌, IfErr, IfSome, List, None, OnOk, length};
-ghost use Rattle.prt_host.specs.Serving.{IsFaultOfServing, IsLeft, IsNotServed, IsServedBy};
+ghost use Rattle.std.specs.Prelude.{◌≡◌, ◌≢◌, IfErr, IfSome, List, None, OnOk, Some, length};
+ghost use Rattle.prt_host.specs.Serving.{IsFaultOfServing, IsLeft, IsNotServed, IsServedBy, fault_of};
+ghost use Rattle.prt_words.specs.Faults.{fault_status};
 ghost use Rattle.prt_words.specs.declared.fault.Fault.{Fault};
 ghost use Rattle.prt_publisher.specs.Standing.{IsQuiet};
 ghost use Rattle.prt_serve.specs.Kept.{Work};
@@ -14,6 +15,7 @@ use prt_grace::Domain;
 use prt_program::{cause_message, log_message};
 use prt_publisher::Publisher;
 use prt_questions::{DatabaseFiles, Machine, Wanted, open_publisher};
+use prt_serve::{Entrances, ServeEnd};
 use prt_words::{DONE, FAULT, Fault, Serving, report};
 use sqlite::{Alter, Connection};
 use std::alloc::Global;
@@ -55,6 +57,73 @@ impl NotServed {
             message,
         }
     }
+
+    /// Makes that of an end of serving, unless all that was asked for was served.
+    fn of_end(end: ServeEnd) -> Option<NotServed>
+        ensures fault { IfSome result (λ failure. fault_of end ≡ Some failure.fault) }
+        ensures none { result ≡ None → fault_of end ≡ None }
+    {
+        let (fault, further) = faults_of(end);
+        match fault {
+            Some(fault) => Some(NotServed {
+                fault,
+                further,
+                message: None,
+            }),
+            None => None,
+        }
+    }
+
+    /// Reports it, and returns the exit status for it.
+    fn report<W: Write, E: Write>(&self, output: &mut W, errors: &mut E) -> u8
+        ensures { result ≡ fault_status self.now.fault }
+    {
+        let status = report(&self.fault, output, errors);
+        if let Some(further) = &self.further {
+            let _ = report(further, output, errors);
+        }
+        if let Some(message) = &self.message {
+            let _ = errors.write_all(message.as_bytes());
+        }
+        status
+    }
+}
+
+/// Serves what comes at these entrances over a publisher. Returns the same as `serve_over`.
+fn serve_at<
+    S: Alter + Drop + Send,
+    F: Measures + Sync,
+    N: ServerNet + Threads + Wait + Clock + Drop + Send + Sync,
+    E: Write + Drop + Send,
+>(
+    rt: &N,
+    alloc: Global,
+    files: &F,
+    mut publisher: Publisher<S>,
+    domain: Domain,
+    entrances: &Entrances<N::Door>,
+    asked: &Serving<'_>,
+    errors: &Mutex<E>,
+) -> (Option<NotServed>, Connection<S>)
+where
+    N::Stream: Send,
+    N::Door: Sync,
+    requires { IsQuiet publisher.phase }
+    ensures fault { IfSome result.0 (λ failure. IsFaultOfServing failure.fault) }
+    ensures left { (shifts : List Work) × IsLeft S.Store publisher.line.book publisher.line.base publisher.ours_first shifts result.1 × (result.0 ≡ None → length shifts ≡ asked.now.workers) }
+{
+    let seats = match publisher.seats(rt, alloc) {
+        Ok(seats) => seats,
+        Err(refusal) => {
+            let opening = Fault::Opening(refusal);
+            let failure = NotServed::new(alloc, opening, &asked.database, None::<&io::Error>);
+            return (Some(failure), publisher.end(rt));
+        }
+    };
+    let (end, conn) = serve_named::<Brand, _, _, _, _, _, _>(
+        rt, alloc, files, publisher, seats, domain, entrances, asked, errors,
+    );
+    (NotServed::of_end(end), conn)
 }
 
 /// Listens, and serves what comes over a publisher. Returns why not all that was asked for was served, and the connection.
@@ -68,7 +137,7 @@ fn serve_over<
     rt: &N,
     alloc: Global,
     files: &F,
-    mut publisher: Publisher<S>,
+    publisher: Publisher<S>,
     domain: Domain,
     asked: &Serving<'_>,
     output: &mut W,
@@ -88,39 +157,18 @@ where
             return (Some(failure), publisher.end(rt));
         }
     };
-    let seats = match publisher.seats(rt, alloc) {
-        Ok(seats) => seats,
-        Err(refusal) => {
-            let opening = Fault::Opening(refusal);
-            let failure = NotServed::new(alloc, opening, &asked.database, None::<&io::Error>);
-            doors.remove_files(files);
-            return (Some(failure), publisher.end(rt));
-        }
-    };
-    let (end, conn) = serve_named::<Brand, _, _, _, _, _, _>(
+    let served = serve_at(
         rt,
         alloc,
         files,
         publisher,
-        seats,
         domain,
         &doors.entrances,
         asked,
         errors,
     );
     doors.remove_files(files);
-    let (fault, further) = faults_of(end);
-    match fault {
-        Some(fault) => (
-            Some(NotServed {
-                fault,
-                further,
-                message: None,
-            }),
-            conn,
-        ),
-        None => (None, conn),
-    }
+    served
 }
 
 /// Opens the database that is asked for, serves it, and closes it.
@@ -201,15 +249,6 @@ where
     let mut errors = errors.into_inner();
     match served {
         Ok(()) => DONE,
-        Err(failure) => {
-            let status = report(&failure.fault, output, &mut errors);
-            if let Some(further) = &failure.further {
-                let _ = report(further, output, &mut errors);
-            }
-            if let Some(message) = &failure.message {
-                let _ = errors.write_all(message.as_bytes());
-            }
-            status
-        }
+        Err(failure) => failure.report(output, &mut errors),
     }
 }

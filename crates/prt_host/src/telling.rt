@@ -41,6 +41,17 @@ pub(crate) fn tell_failure<S, E: Write>(
     }
 }
 
+/// Reports why the standard input and the standard output failed, if they did.
+pub(crate) fn tell_failures<R, W, E: Write>(
+    alloc: Global,
+    input: &Noting<R>,
+    output: &Noting<W>,
+    errors: &mut E,
+) {
+    tell_failure(alloc, "standard input", input, errors);
+    tell_failure(alloc, "standard output", output, errors);
+}
+
 /// For how many seconds a failed acceptance is reported once.
 const TELLING_PAUSE: u64 = 60;
 

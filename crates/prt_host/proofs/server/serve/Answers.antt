@@ -5,7 +5,7 @@ use Rattle.prt_host.proofs.server.serve.Goals as goal
 
 pub returns-clause-fault : goal.returns-clause-fault
 returns-clause-fault g c not_done =
-    c.report-status.ensures.status
+    c.report.ensures
     ∙ not_served_status g.S.Store (g.M.Machine.opens Any) (g.M.Machine.refuses Any) g.M.Machine.closes c.args.databases.now.machine c.serve_database-served.new.databases.machine c.args.asked.now.database.now c.in-Err.failure.fault c.in-Err.ensures.err
 
 pub returns-clause-why : goal.returns-clause-why

@@ -1,9 +1,5 @@
-use Rattle.std.proofs.Common.{◌≡◌, ◌∙◌, [], ap, inr, refl, subst, sym, Some}
-use Rattle.prt_publisher.specs.Standing.{IsQuiet, Standing}
-use Rattle.prt_serve.specs.declared.listen.Accepting.TheVariants.{Ended}
-use Rattle.prt_serve.specs.declared.listen.ServeEnd.{ServeEnd}
+use Rattle.std.proofs.Common.{[], refl, sym}
 use Rattle.prt_host.proofs.Served.{left_alone}
-use Rattle.prt_host.specs.Serving.{IsFaultOfServing}
 use Rattle.prt_host.proofs.server.serve_over.Goals as goal
 
 pub returns-in-Err-clause-left : goal.returns-in-Err-clause-left
@@ -12,23 +8,3 @@ returns-in-Err-clause-left g c = (
   left_alone g.S.Store _ _ _ c.args.publisher.line _ (record { last = c.args.publisher; its = sym c.end.ensures.tables; line = refl; quiet = c.requires; named = (refl, refl, refl); stands = c.end.ensures.stands }),
   (λ none. absurd (cc none)),
 )
-
-pub returns-in-Err-seats-clause-fault : goal.returns-in-Err-seats-clause-fault
-returns-in-Err-seats-clause-fault g c =
-    let end : ServeEnd = record { accepting = Ended; feeding = Ended; refused = Some c.in-Err-seats.refusal } in
-    subst IsFaultOfServing (sym c.new-failure-in-Err-seats.ensures) (inr (end, refl))
-
-pub returns-in-Err-seats-clause-left : goal.returns-in-Err-seats-clause-left
-returns-in-Err-seats-clause-left g c =
-    let same : c.seats.new.self ≡ c.args.publisher = c.in-Err-seats.ensures.same in (
-      [],
-      left_alone g.S.Store _ _ _ c.seats.new.self.line _ (record {
-        last = c.seats.new.self;
-        its = sym c.end-in-Err-seats.ensures.tables;
-        line = refl;
-        quiet = subst (λ (p : Standing _). IsQuiet p.phase) (sym same) c.requires;
-        named = (ap (λ (p : Standing _). p.line.book) same, ap (λ (p : Standing _). p.line.base) same, ap (λ (p : Standing _). p.ours_first) same);
-        stands = c.end-in-Err-seats.ensures.stands;
-      }),
-      (λ none. absurd (cc none)),
-    )
