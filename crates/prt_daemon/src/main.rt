@@ -6,39 +6,65 @@ mod machine;
 
 use calls::HostCalls;
 use machine::ThisMachine;
-use prt_host::{DatabaseFiles, run};
-use prt_program::Noting;
+use prt_host::{DatabaseFiles, Machine, Measures, ServerNet, run};
+use prt_program::{Noting, ReadFiles};
 use prt_words::{report, words_fault};
+use sqlite::{Alter, Connection};
+use std::alloc::Global;
+use std::fs::Files;
+use std::io::{IsTerminal, Read, Write};
 use std::process::ExitCode;
+use std::rt::Clock;
+use std::sync::Wait;
+use std::thread::Threads;
 use std::{env, io};
+
+/// Runs the program over the databases of a machine, with these streams, and returns its exit status. It has no clause, as
+/// `main` has none: so `main` isn't proved over all that `run` says of this machine.
+fn run_over<
+    S: Alter + Drop + Send,
+    M: Machine<Connection<S>> + Drop,
+    F: Files + ReadFiles + Measures + Clock + Drop + Sync,
+    N: ServerNet + Threads + Wait + Clock + Copy + Drop + Send + Sync,
+    R: Read + Drop,
+    W: Write + IsTerminal + Drop,
+    E: Write + IsTerminal + Drop + Send,
+>(
+    databases: &mut DatabaseFiles<'_, S, M, F, N>,
+    alloc: Global,
+    words: &[String],
+    input: R,
+    output: W,
+    errors: E,
+) -> u8
+where
+    N::Stream: Send,
+    N::Door: Sync,
+{
+    let mut input = Noting::new(input);
+    let mut output = Noting::new(output);
+    run(databases, alloc, words, &mut input, &mut output, errors)
+}
+
+/// Collects the words of the command line.
+fn words_of(rt: &HostRuntime) -> io::Result<Vec<String>> {
+    let words = env::args(rt)?;
+    Ok(words.collect(rt.alloc())?)
+}
 
 /// Reads the words, and runs the program over the standard streams.
 fn main(rt: HostRuntime) -> ExitCode {
     let alloc = rt.alloc();
-    let words: io::Result<Vec<String>> = env::args(&rt).and_then(|args| Ok(args.collect(alloc)?));
-    let words = match words {
+    let words = match words_of(&rt) {
         Ok(words) => words,
         Err(error) => {
             let fault = words_fault(alloc, &error);
             return ExitCode::from(report(&fault, &mut rt.stdout(), &mut rt.stderr()));
         }
     };
-    let mut databases = DatabaseFiles::new(
-        ThisMachine {
-            calls: HostCalls { host: &rt },
-        },
-        &rt,
-        rt,
-    );
-    let mut input = Noting::new(rt.stdin());
-    let mut output = Noting::new(rt.stdout());
-    let status = run(
-        &mut databases,
-        alloc,
-        words.as_slice(),
-        &mut input,
-        &mut output,
-        rt.stderr(),
-    );
+    let calls = HostCalls { host: &rt };
+    let mut databases = DatabaseFiles::new(ThisMachine { calls }, &rt, rt);
+    let (input, output, errors) = (rt.stdin(), rt.stdout(), rt.stderr());
+    let status = run_over(&mut databases, alloc, &words, input, output, errors);
     ExitCode::from(status)
 }
