@@ -1,6 +1,6 @@
 //! The words that the program knows, as clap reads them.
 ghost use Rattle.std.specs.Prelude.{◌≡◌, IfOk, false};
-ghost use Rattle.clap.specs.Words.{app_of, rule_of};
+ghost use Rattle.clap.specs.Words.{App, app_of, rule_of, with_subcommand};
 ghost use Rattle.prt_words.specs.CommandLine.{batch_line, check_line, command_line, database_rule, diff_line, dump_line, explain_line, file_rule, flag_rule, get_line, has_globals, import_line, needed_rule, number_rule, option_rule, place_line, question_line, replay_line, show_line, tables_line, with_questions, words_rule};
 
 use crate::analysis_lines::with_analyses;
@@ -310,19 +310,28 @@ pub(crate) fn import_line<'a>(alloc: Global) -> Result<Command<'a>, AllocError>
         .arg(listing_operand(alloc))
 }
 
+/// Adds a subcommand, unless memory was refused for it or for what it is added to.
+pub(crate) fn with_line<'a>(
+    command: Result<Command<'a>, AllocError>,
+    line: Result<Command<'a>, AllocError>,
+) -> Result<Command<'a>, AllocError>
+    ensures { (app : App) → (added : App) → IfOk command.entry (λ command. app_of command ≡ app) → IfOk line.entry (λ line. app_of line ≡ added) → IfOk line.entry (λ line. has_globals line ≡ false) → IfOk result (λ made. app_of made ≡ with_subcommand app added.top) }
+{
+    command?.subcommand(line?)
+}
+
 /// Adds the subcommands that ask questions.
 fn with_questions<'a>(alloc: Global, command: Command<'a>) -> Result<Command<'a>, AllocError>
     ensures { IfOk result (λ made. app_of made ≡ with_questions (app_of command.entry)) }
 {
-    command
-        .subcommand(get_line(alloc)?)?
-        .subcommand(show_line(alloc)?)?
-        .subcommand(explain_line(alloc)?)?
-        .subcommand(dump_line(alloc)?)?
-        .subcommand(diff_line(alloc)?)?
-        .subcommand(follow_line(alloc)?)?
-        .subcommand(wait_line(alloc)?)?
-        .subcommand(import_line(alloc)?)
+    let getting = with_line(Ok(command), get_line(alloc));
+    let showing = with_line(getting, show_line(alloc));
+    let explaining = with_line(showing, explain_line(alloc));
+    let dumping = with_line(explaining, dump_line(alloc));
+    let comparing = with_line(dumping, diff_line(alloc));
+    let following = with_line(comparing, follow_line(alloc));
+    let waiting = with_line(following, wait_line(alloc));
+    with_line(waiting, import_line(alloc))
 }
 
 /// Says which words the program knows.
