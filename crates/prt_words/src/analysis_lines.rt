@@ -3,7 +3,9 @@ ghost use Rattle.std.specs.Prelude.{◌≡◌, IfOk, false};
 ghost use Rattle.clap.specs.Words.{app_of};
 ghost use Rattle.prt_words.specs.CommandLine.{assert_line, has_globals, impact_line, unused_line, with_analyses};
 
-use crate::command_line::{QUERIED, file_operand, flag, place_line, words_operand};
+use crate::command_line::{
+    QUERIED, file_operand, flag, place_line, with_argument, with_line, words_operand,
+};
 use clap::Command;
 use std::alloc::{AllocError, Global};
 
@@ -14,23 +16,17 @@ pub(crate) fn impact_line<'a>(alloc: Global) -> Result<Command<'a>, AllocError>
 {
     let about =
         "Executes commands on a copy of the tables, and shows which packets they send another way";
-    place_line(alloc, "impact", about, QUERIED)?
-        .arg(flag(alloc, "json", "Answer in JSON"))?
-        .arg(flag(
-            alloc,
-            "exact",
-            "Show also packets that another rule or route sends the same way",
-        ))?
-        .arg(flag(
-            alloc,
-            "force",
-            "Go on with the next line after a refused one",
-        ))?
-        .arg(words_operand(
-            alloc,
-            "FILE",
-            "The commands, or `-` for standard input; without --db and --server a script before them makes the tables",
-        ))
+    let formed = with_argument(
+        place_line(alloc, "impact", about, QUERIED),
+        flag(alloc, "json", "Answer in JSON"),
+    );
+    let exact = "Show also packets that another rule or route sends the same way";
+    let compared = with_argument(formed, flag(alloc, "exact", exact));
+    let force = "Go on with the next line after a refused one";
+    let forced = with_argument(compared, flag(alloc, "force", force));
+    let file =
+        "The commands, or `-` for standard input; without --db and --server a script before them makes the tables";
+    with_argument(forced, words_operand(alloc, "FILE", file))
 }
 
 /// Builds the words that may follow `assert`.
@@ -39,17 +35,14 @@ pub(crate) fn assert_line<'a>(alloc: Global) -> Result<Command<'a>, AllocError>
     ensures own { IfOk result (λ command. has_globals command ≡ false) }
 {
     let about = "Checks claims of where packets go, and shows those that fail";
-    place_line(alloc, "assert", about, QUERIED)?
-        .arg(flag(
-            alloc,
-            "explain",
-            "Explain for each claim that fails why a packet goes elsewhere",
-        ))?
-        .arg(words_operand(
-            alloc,
-            "FILE",
-            "The claims, or `-` for standard input; without --db and --server a script before them makes the tables",
-        ))
+    let explain = "Explain for each claim that fails why a packet goes elsewhere";
+    let explained = with_argument(
+        place_line(alloc, "assert", about, QUERIED),
+        flag(alloc, "explain", explain),
+    );
+    let file =
+        "The claims, or `-` for standard input; without --db and --server a script before them makes the tables";
+    with_argument(explained, words_operand(alloc, "FILE", file))
 }
 
 /// Builds the words that may follow `unused`.
@@ -58,10 +51,12 @@ pub(crate) fn unused_line<'a>(alloc: Global) -> Result<Command<'a>, AllocError>
     ensures own { IfOk result (λ command. has_globals command ≡ false) }
 {
     let about = "Lists rules and routes that no packet uses";
-    place_line(alloc, "unused", about, QUERIED)?.arg(file_operand(
-        alloc,
-        "Without --db and --server, the script that makes the tables; standard input if it is missing or `-`",
-    ))
+    let file =
+        "Without --db and --server, the script that makes the tables; standard input if it is missing or `-`";
+    with_argument(
+        place_line(alloc, "unused", about, QUERIED),
+        file_operand(alloc, file),
+    )
 }
 
 /// Adds the subcommands that analyse where packets go.
@@ -71,8 +66,7 @@ pub(crate) fn with_analyses<'a>(
 ) -> Result<Command<'a>, AllocError>
     ensures { IfOk result (λ made. app_of made ≡ with_analyses (app_of command.entry)) }
 {
-    command
-        .subcommand(impact_line(alloc)?)?
-        .subcommand(assert_line(alloc)?)?
-        .subcommand(unused_line(alloc)?)
+    let comparing = with_line(Ok(command), impact_line(alloc));
+    let claiming = with_line(comparing, assert_line(alloc));
+    with_line(claiming, unused_line(alloc))
 }

@@ -1,7 +1,7 @@
 //! The words that the program knows, as clap reads them.
 ghost use Rattle.std.specs.Prelude.{◌≡◌, IfOk, false};
-ghost use Rattle.clap.specs.Words.{App, app_of, rule_of, with_subcommand};
-ghost use Rattle.prt_words.specs.CommandLine.{batch_line, check_line, command_line, database_rule, diff_line, dump_line, explain_line, file_rule, flag_rule, get_line, has_globals, import_line, needed_rule, number_rule, option_rule, place_line, question_line, replay_line, show_line, tables_line, with_questions, words_rule};
+ghost use Rattle.clap.specs.Words.{App, Rule, app_of, rule_of, with_rule, with_subcommand};
+ghost use Rattle.prt_words.specs.CommandLine.{batch_line, check_line, command_line, database_rule, diff_line, dump_line, explain_line, file_rule, flag_rule, get_line, has_globals, import_line, needed_rule, number_rule, opening_line, option_rule, place_line, question_line, replay_line, show_line, tables_line, with_questions, words_rule};
 
 use crate::analysis_lines::with_analyses;
 use crate::reach_lines::{follow_line, wait_line, with_reach};
@@ -78,36 +78,46 @@ pub(crate) fn number_option<'a>(
     option(alloc, name, value, help).default_value(missing)
 }
 
+/// Adds an argument, unless memory was refused for what it is added to.
+pub(crate) fn with_argument<'a>(
+    command: Result<Command<'a>, AllocError>,
+    argument: Arg<'a>,
+) -> Result<Command<'a>, AllocError>
+    ensures line { (app : App) → (rule : Rule) → IfOk command.entry (λ command. app_of command ≡ app) → rule_of argument.entry ≡ rule → argument.entry.global ≡ false → IfOk result (λ made. app_of made ≡ with_rule app rule) }
+    ensures own { IfOk command.entry (λ command. has_globals command ≡ false) → argument.entry.global ≡ false → IfOk result (λ made. has_globals made ≡ false) }
+{
+    command?.arg(argument)
+}
+
+/// Adds a subcommand, unless memory was refused for it or for what it is added to.
+pub(crate) fn with_line<'a>(
+    command: Result<Command<'a>, AllocError>,
+    line: Result<Command<'a>, AllocError>,
+) -> Result<Command<'a>, AllocError>
+    ensures { (app : App) → (added : App) → IfOk command.entry (λ command. app_of command ≡ app) → IfOk line.entry (λ line. app_of line ≡ added) → IfOk line.entry (λ line. has_globals line ≡ false) → IfOk result (λ made. app_of made ≡ with_subcommand app added.top) }
+{
+    command?.subcommand(line?)
+}
+
 /// Says which words may follow `batch`.
 pub(crate) fn batch_line<'a>(alloc: Global) -> Result<Command<'a>, AllocError>
     ensures line { IfOk result (λ command. app_of command ≡ batch_line) }
     ensures own { IfOk result (λ command. has_globals command ≡ false) }
 {
-    Command::new(alloc, "batch")
-        .about("Runs a script of route and rule commands over a database")
-        .arg(flag(
-            alloc,
-            "force",
-            "Go on with the next line after a refused one",
-        ))?
-        .arg(flag(
-            alloc,
-            "atomic",
-            "Make all changes together or none, once all lines are read; not with --force",
-        ))?
-        .arg(database_option(alloc))?
-        .arg(option(
-            alloc,
-            "server",
-            "WHERE",
-            "Have a server make the changes: the folder of its sockets, or the address and port of its atomic scripts; with --atomic",
-        ))?
-        .arg(flag(
-            alloc,
-            "verbose",
-            "Report each refused line on standard error, even if that is no terminal",
-        ))?
-        .arg(file_operand(alloc, "The script; standard input if it is missing or `-`"))
+    let about = "Runs a script of route and rule commands over a database";
+    let command = Ok(Command::new(alloc, "batch").about(about));
+    let force = "Go on with the next line after a refused one";
+    let forced = with_argument(command, flag(alloc, "force", force));
+    let atomic = "Make all changes together or none, once all lines are read; not with --force";
+    let joined = with_argument(forced, flag(alloc, "atomic", atomic));
+    let named = with_argument(joined, database_option(alloc));
+    let server =
+        "Have a server make the changes: the folder of its sockets, or the address and port of its atomic scripts; with --atomic";
+    let served = with_argument(named, option(alloc, "server", "WHERE", server));
+    let verbose = "Report each refused line on standard error, even if that is no terminal";
+    let told = with_argument(served, flag(alloc, "verbose", verbose));
+    let file = "The script; standard input if it is missing or `-`";
+    with_argument(told, file_operand(alloc, file))
 }
 
 /// Says which words may follow `check`.
@@ -160,15 +170,12 @@ pub(crate) fn place_line<'a>(
     ensures line { IfOk result (λ command. app_of command ≡ place_line name.entry.now) }
     ensures own { IfOk result (λ command. has_globals command ≡ false) }
 {
-    Command::new(alloc, name)
-        .about(about)
-        .arg(option(alloc, "db", "PATH", database_help))?
-        .arg(option(
-            alloc,
-            "server",
-            "WHERE",
-            "A server: the folder of its sockets, or the address and port of its feed",
-        ))
+    let named = with_argument(
+        Ok(Command::new(alloc, name).about(about)),
+        option(alloc, "db", "PATH", database_help),
+    );
+    let server = "A server: the folder of its sockets, or the address and port of its feed";
+    with_argument(named, option(alloc, "server", "WHERE", server))
 }
 
 /// Says which words name the tables that are queried, and the form of the answer.
@@ -176,17 +183,13 @@ fn tables_line<'a>(alloc: Global, name: &'a str, about: &'a str) -> Result<Comma
     ensures line { IfOk result (λ command. app_of command ≡ tables_line name.entry.now) }
     ensures own { IfOk result (λ command. has_globals command ≡ false) }
 {
-    place_line(alloc, name, about, QUERIED)?
-        .arg(flag(
-            alloc,
-            "json",
-            "Answer in JSON, with the field names of `ip -j`",
-        ))?
-        .arg(flag(
-            alloc,
-            "names",
-            "Print tables by their names in iproute2's `rt_tables`",
-        ))
+    let json = "Answer in JSON, with the field names of `ip -j`";
+    let formed = with_argument(
+        place_line(alloc, name, about, QUERIED),
+        flag(alloc, "json", json),
+    );
+    let names = "Print tables by their names in iproute2's `rt_tables`";
+    with_argument(formed, flag(alloc, "names", names))
 }
 
 /// Says which words may follow the name of a question.
@@ -200,7 +203,10 @@ fn question_line<'a>(
     ensures line { IfOk result (λ command. app_of command ≡ question_line name.entry.now) }
     ensures own { IfOk result (λ command. has_globals command ≡ false) }
 {
-    tables_line(alloc, name, about)?.arg(words_operand(alloc, value, help))
+    with_argument(
+        tables_line(alloc, name, about),
+        words_operand(alloc, value, help),
+    )
 }
 
 /// Says which words may follow `get`.
@@ -251,11 +257,12 @@ pub(crate) fn dump_line<'a>(alloc: Global) -> Result<Command<'a>, AllocError>
     ensures own { IfOk result (λ command. has_globals command ≡ false) }
 {
     let about = "Prints commands that recreate the rules and routes of a database";
-    tables_line(alloc, "dump", about)?.arg(flag(
-        alloc,
-        "replace",
-        "Print commands that replace existing routes, without the kernel's own routes; not with --json or --names",
-    ))
+    let replace =
+        "Print commands that replace existing routes, without the kernel's own routes; not with --json or --names";
+    with_argument(
+        tables_line(alloc, "dump", about),
+        flag(alloc, "replace", replace),
+    )
 }
 
 /// Makes the operand that names a listing of the kernel's.
@@ -274,24 +281,16 @@ pub(crate) fn diff_line<'a>(alloc: Global) -> Result<Command<'a>, AllocError>
     ensures line { IfOk result (λ command. app_of command ≡ diff_line) }
     ensures own { IfOk result (λ command. has_globals command ≡ false) }
 {
-    let place = place_line(
-        alloc,
-        "diff",
-        "Prints the lines for `ip -batch` that bring the kernel to a database, as far as the options allow",
-        QUERIED,
-    )?;
-    with_reach(alloc, place)?
-        .arg(flag(
-            alloc,
-            "check",
-            "Print nothing; the status is 1 if anything differs",
-        ))?
-        .arg(flag(
-            alloc,
-            "impact",
-            "Show first, as comments, which packets the lines send another way; not with --check",
-        ))?
-        .arg(listing_operand(alloc))
+    let about =
+        "Prints the lines for `ip -batch` that bring the kernel to a database, as far as the options allow";
+    let place = place_line(alloc, "diff", about, QUERIED)?;
+    let reaching = with_reach(alloc, place);
+    let check = "Print nothing; the status is 1 if anything differs";
+    let checking = with_argument(reaching, flag(alloc, "check", check));
+    let impact =
+        "Show first, as comments, which packets the lines send another way; not with --check";
+    let showing = with_argument(checking, flag(alloc, "impact", impact));
+    with_argument(showing, listing_operand(alloc))
 }
 
 /// Says which words may follow `import`.
@@ -299,25 +298,14 @@ pub(crate) fn import_line<'a>(alloc: Global) -> Result<Command<'a>, AllocError>
     ensures line { IfOk result (λ command. app_of command ≡ import_line) }
     ensures own { IfOk result (λ command. has_globals command ≡ false) }
 {
-    Command::new(alloc, "import")
-        .about("Prints a script that makes the rules and routes that `ip` prints")
-        .arg(option(
-            alloc,
-            "db",
-            "PATH",
-            "Make the tables of this database file what the script makes, instead of printing it",
-        ))?
-        .arg(listing_operand(alloc))
-}
-
-/// Adds a subcommand, unless memory was refused for it or for what it is added to.
-pub(crate) fn with_line<'a>(
-    command: Result<Command<'a>, AllocError>,
-    line: Result<Command<'a>, AllocError>,
-) -> Result<Command<'a>, AllocError>
-    ensures { (app : App) → (added : App) → IfOk command.entry (λ command. app_of command ≡ app) → IfOk line.entry (λ line. app_of line ≡ added) → IfOk line.entry (λ line. has_globals line ≡ false) → IfOk result (λ made. app_of made ≡ with_subcommand app added.top) }
-{
-    command?.subcommand(line?)
+    let about = "Prints a script that makes the rules and routes that `ip` prints";
+    let database =
+        "Make the tables of this database file what the script makes, instead of printing it";
+    let named = with_argument(
+        Ok(Command::new(alloc, "import").about(about)),
+        option(alloc, "db", "PATH", database),
+    );
+    with_argument(named, listing_operand(alloc))
 }
 
 /// Adds the subcommands that ask questions.
@@ -334,21 +322,28 @@ fn with_questions<'a>(alloc: Global, command: Command<'a>) -> Result<Command<'a>
     with_line(waiting, import_line(alloc))
 }
 
-/// Says which words the program knows.
-pub(crate) fn command_line<'a>(alloc: Global) -> Result<Command<'a>, AllocError>
-    ensures { IfOk result (λ command. app_of command ≡ command_line) }
+/// Makes the program's own line, which has no subcommand yet.
+fn opening_line<'a>(alloc: Global) -> Result<Command<'a>, AllocError>
+    ensures { IfOk result (λ command. app_of command ≡ opening_line) }
 {
     let command = Command::new(alloc, "prt")
         .bin_name("prt")?
         .about("The table service of an IPv4 policy router")
         .version(VERSION)
         .subcommand_required(true)
-        .arg_required_else_help(true)
-        .subcommand(batch_line(alloc)?)?
-        .subcommand(check_line(alloc)?)?
-        .subcommand(replay_line(alloc)?)?
-        .subcommand(serve_line(alloc)?)?;
-    let asking = with_questions(alloc, command)?;
+        .arg_required_else_help(true);
+    Ok(command)
+}
+
+/// Says which words the program knows.
+pub(crate) fn command_line<'a>(alloc: Global) -> Result<Command<'a>, AllocError>
+    ensures { IfOk result (λ command. app_of command ≡ command_line) }
+{
+    let running = with_line(opening_line(alloc), batch_line(alloc));
+    let checking = with_line(running, check_line(alloc));
+    let replaying = with_line(checking, replay_line(alloc));
+    let serving = with_line(replaying, serve_line(alloc));
+    let asking = with_questions(alloc, serving?)?;
     let analysing = with_analyses(alloc, asking)?;
     with_services(alloc, analysing)
 }

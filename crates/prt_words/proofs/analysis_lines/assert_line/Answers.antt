@@ -1,16 +1,6 @@
-use Rattle.std.proofs.Common.{◌∙◌, ◌||◌, Bool, ap₂}
-use Rattle.std.proofs.lemmas.Result.{IfOk-weaker}
-use Rattle.clap.specs.Words.{with_rule}
 use Rattle.prt_words.proofs.analysis_lines.assert_line.Goals as goal
 
-abbrev either : Bool → Bool → Bool
-either a b = a || b
-
-pub returns : goal.returns
-returns c =
-    let with_explain = c.in_ok-arg.ensures.shape c.flag.ensures.own ∙ ap₂ with_rule c.in_ok-place_line.ensures.line c.flag.ensures.rule in
-    let explain_own = c.in_ok-arg.ensures.globals ∙ ap₂ either c.in_ok-place_line.ensures.own c.flag.ensures.own in
-    record {
-      line = IfOk-weaker c.arg-2.result _ _ (λ command added. added.shape c.words_operand.ensures.own ∙ ap₂ with_rule with_explain c.words_operand.ensures.rule) c.arg-2.ensures;
-      own = IfOk-weaker c.arg-2.result _ _ (λ command added. added.globals ∙ ap₂ either explain_own c.words_operand.ensures.own) c.arg-2.ensures;
-    }
+pub returns-clause-line : goal.returns-clause-line
+returns-clause-line c =
+    let explained = c.with_argument-explained.ensures.line _ _ c.place_line.ensures.line c.flag.ensures.rule c.flag.ensures.own in
+    c.with_argument.ensures.line _ _ explained c.words_operand.ensures.rule c.words_operand.ensures.own

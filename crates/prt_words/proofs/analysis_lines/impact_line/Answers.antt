@@ -1,20 +1,8 @@
-use Rattle.std.proofs.Common.{◌∙◌, ◌||◌, Bool, ap₂}
-use Rattle.std.proofs.lemmas.Result.{IfOk-weaker}
-use Rattle.clap.specs.Words.{with_rule}
 use Rattle.prt_words.proofs.analysis_lines.impact_line.Goals as goal
 
-abbrev either : Bool → Bool → Bool
-either a b = a || b
-
-pub returns : goal.returns
-returns c =
-    let with_json = c.in_ok-arg.ensures.shape c.flag.ensures.own ∙ ap₂ with_rule c.in_ok-place_line.ensures.line c.flag.ensures.rule in
-    let json_own = c.in_ok-arg.ensures.globals ∙ ap₂ either c.in_ok-place_line.ensures.own c.flag.ensures.own in
-    let with_exact = c.in_ok-arg-2.ensures.shape c.flag-2.ensures.own ∙ ap₂ with_rule with_json c.flag-2.ensures.rule in
-    let exact_own = c.in_ok-arg-2.ensures.globals ∙ ap₂ either json_own c.flag-2.ensures.own in
-    let with_force = c.in_ok-arg-3.ensures.shape c.flag-3.ensures.own ∙ ap₂ with_rule with_exact c.flag-3.ensures.rule in
-    let force_own = c.in_ok-arg-3.ensures.globals ∙ ap₂ either exact_own c.flag-3.ensures.own in
-    record {
-      line = IfOk-weaker c.arg-4.result _ _ (λ command added. added.shape c.words_operand.ensures.own ∙ ap₂ with_rule with_force c.words_operand.ensures.rule) c.arg-4.ensures;
-      own = IfOk-weaker c.arg-4.result _ _ (λ command added. added.globals ∙ ap₂ either force_own c.words_operand.ensures.own) c.arg-4.ensures;
-    }
+pub returns-clause-line : goal.returns-clause-line
+returns-clause-line c =
+    let formed = c.with_argument-formed.ensures.line _ _ c.place_line.ensures.line c.flag.ensures.rule c.flag.ensures.own in
+    let compared = c.with_argument-compared.ensures.line _ _ formed c.flag-2.ensures.rule c.flag-2.ensures.own in
+    let forced = c.with_argument-forced.ensures.line _ _ compared c.flag-3.ensures.rule c.flag-3.ensures.own in
+    c.with_argument.ensures.line _ _ forced c.words_operand.ensures.rule c.words_operand.ensures.own

@@ -1,20 +1,8 @@
-use Rattle.std.proofs.Common.{◌∙◌, ◌||◌, Bool, ap₂}
-use Rattle.std.proofs.lemmas.Result.{IfOk-weaker}
-use Rattle.clap.specs.Words.{with_rule}
 use Rattle.prt_words.proofs.service_lines.apply_line.Goals as goal
 
-abbrev either : Bool → Bool → Bool
-either a b = a || b
-
-pub returns : goal.returns
-returns c =
-    let with_atomic = c.in_ok-arg.ensures.shape c.option.ensures.own ∙ ap₂ with_rule c.in_ok-place_line.ensures.line c.option.ensures.rule in
-    let atomic_own = c.in_ok-arg.ensures.globals ∙ ap₂ either c.in_ok-place_line.ensures.own c.option.ensures.own in
-    let with_dry_run = c.in_ok-arg-2.ensures.shape c.flag.ensures.own ∙ ap₂ with_rule with_atomic c.flag.ensures.rule in
-    let dry_run_own = c.in_ok-arg-2.ensures.globals ∙ ap₂ either atomic_own c.flag.ensures.own in
-    let with_impact = c.in_ok-arg-3.ensures.shape c.flag-2.ensures.own ∙ ap₂ with_rule with_dry_run c.flag-2.ensures.rule in
-    let impact_own = c.in_ok-arg-3.ensures.globals ∙ ap₂ either dry_run_own c.flag-2.ensures.own in
-    record {
-      line = IfOk-weaker c.arg-4.result _ _ (λ command added. added.shape c.file_operand.ensures.own ∙ ap₂ with_rule with_impact c.file_operand.ensures.rule) c.arg-4.ensures;
-      own = IfOk-weaker c.arg-4.result _ _ (λ command added. added.globals ∙ ap₂ either impact_own c.file_operand.ensures.own) c.arg-4.ensures;
-    }
+pub returns-clause-line : goal.returns-clause-line
+returns-clause-line c =
+    let joined = c.with_argument-joined.ensures.line _ _ c.place_line-place.ensures.line c.option.ensures.rule c.option.ensures.own in
+    let tried = c.with_argument-tried.ensures.line _ _ joined c.flag.ensures.rule c.flag.ensures.own in
+    let compared = c.with_argument-compared.ensures.line _ _ tried c.flag-2.ensures.rule c.flag-2.ensures.own in
+    c.with_argument.ensures.line _ _ compared c.file_operand.ensures.rule c.file_operand.ensures.own
