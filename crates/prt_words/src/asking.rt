@@ -487,19 +487,19 @@ fn asked_of<'a>(
     ensures reads { IfOk result (IsAskedBy matches.now) }
 {
     match word {
-        QuestionWord::Tables(verb) => Ok(Asked::Tables(asking_of(alloc, verb, matches)?)),
-        QuestionWord::Diff => Ok(Asked::Diff(diffing_of(alloc, matches)?)),
-        QuestionWord::Follow => Ok(Asked::Follow(following_of(alloc, matches)?)),
-        QuestionWord::Wait => Ok(Asked::Wait(waiting_of(matches)?)),
+        QuestionWord::Tables(verb) => asking_of(alloc, verb, matches).map(Asked::Tables),
+        QuestionWord::Diff => diffing_of(alloc, matches).map(Asked::Diff),
+        QuestionWord::Follow => following_of(alloc, matches).map(Asked::Follow),
+        QuestionWord::Wait => waiting_of(matches).map(Asked::Wait),
         QuestionWord::Import => Ok(Asked::Import(Importing {
             file: file_in(matches),
             database: matches.get_str("db"),
         })),
-        QuestionWord::Impact => Ok(Asked::Impact(rehearsing_of(matches)?)),
-        QuestionWord::Assert => Ok(Asked::Assert(asserting_of(matches)?)),
-        QuestionWord::Unused => Ok(Asked::Unused(searched_of(matches)?)),
-        QuestionWord::Apply => Ok(Asked::Apply(applying_of(matches)?)),
-        QuestionWord::Status => Ok(Asked::Status(inspecting_of(matches)?)),
+        QuestionWord::Impact => rehearsing_of(matches).map(Asked::Impact),
+        QuestionWord::Assert => asserting_of(matches).map(Asked::Assert),
+        QuestionWord::Unused => searched_of(matches).map(Asked::Unused),
+        QuestionWord::Apply => applying_of(matches).map(Asked::Apply),
+        QuestionWord::Status => inspecting_of(matches).map(Asked::Status),
     }
 }
 
