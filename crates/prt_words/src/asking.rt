@@ -503,6 +503,28 @@ fn asked_of<'a>(
     }
 }
 
+/// Reads what the matches of a question's subcommand ask for, and says of bad words which fault they are.
+///
+/// # Errors
+///
+/// `Words` with what is wrong with them; `Opening` with `NoMemory` if memory is refused.
+fn asked_by<'a>(
+    alloc: Global,
+    word: QuestionWord,
+    matches: &ArgMatches<'a>,
+) -> Result<Asked<'a>, Fault>
+    ensures limits { IfOk result IsAsked }
+    ensures word { IfOk result (λ asked. name_of_asked asked ≡ name_of_word word) }
+    ensures reads { IfOk result (IsAskedBy matches.now) }
+    ensures fault { IfErr result (IsWordsFault usage_error) }
+{
+    match asked_of(alloc, word, matches) {
+        Ok(asked) => Ok(asked),
+        Err(BadQuestion::Words(text)) => Err(asking_fault(alloc, word, text)),
+        Err(BadQuestion::NoMemory) => Err(Fault::Opening(Refusal::NoMemory)),
+    }
+}
+
 /// Reads what the matches of all words ask, if they ask a question.
 ///
 /// # Errors
@@ -522,12 +544,8 @@ pub(crate) fn asked_in<'a>(
     let Some((name, found)) = matches.subcommand() else {
         return Ok(None);
     };
-    let Some(word) = question_word(name) else {
-        return Ok(None);
-    };
-    match asked_of(alloc, word, found) {
-        Ok(asked) => Ok(Some(asked)),
-        Err(BadQuestion::Words(text)) => Err(asking_fault(alloc, word, text)),
-        Err(BadQuestion::NoMemory) => Err(Fault::Opening(Refusal::NoMemory)),
+    match question_word(name) {
+        Some(word) => asked_by(alloc, word, found).map(Some),
+        None => Ok(None),
     }
 }
