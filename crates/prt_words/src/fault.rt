@@ -94,13 +94,25 @@ pub fn words_fault(alloc: Global, error: &io::Error) -> Fault
     }
 }
 
+/// Makes the error of words of a subcommand of which the text says what is wrong, in the form of those of a parse. The name is
+/// that of the program with the subcommand's.
+fn line_error<'a>(
+    line: Result<Command<'a>, AllocError>,
+    name: &'a str,
+    kind: ErrorKind,
+    text: &str,
+) -> Result<clap::Error, AllocError>
+    ensures { IfOk result (λ error. kind_of error ≡ kind) }
+{
+    line?.bin_name(name)?.error(kind, text)
+}
+
 /// Makes the error of words of `batch` of which the text says what is wrong, in the form of those of a parse.
 fn batch_error(alloc: Global, text: &str) -> Result<clap::Error, AllocError>
     ensures { IfOk result (λ error. kind_of error ≡ ErrorKind.ArgumentConflict) }
 {
-    batch_line(alloc)?
-        .bin_name("prt batch")?
-        .error(ErrorKind::ArgumentConflict, text)
+    let kind = ErrorKind::ArgumentConflict;
+    line_error(batch_line(alloc), "prt batch", kind, text)
 }
 
 /// Builds the fault of what is wrong with the words of `batch`, in this text.
@@ -117,9 +129,8 @@ pub(crate) fn batch_fault(alloc: Global, text: &str) -> Fault
 fn serving_error(alloc: Global, text: &str) -> Result<clap::Error, AllocError>
     ensures { IfOk result (λ error. kind_of error ≡ ErrorKind.ValueValidation) }
 {
-    serve_line(alloc)?
-        .bin_name("prt serve")?
-        .error(ErrorKind::ValueValidation, text)
+    let kind = ErrorKind::ValueValidation;
+    line_error(serve_line(alloc), "prt serve", kind, text)
 }
 
 /// Builds the fault of what is wrong with the words of `serve`, in this text.
@@ -189,9 +200,8 @@ fn asking_line<'a>(alloc: Global, word: QuestionWord) -> Result<Command<'a>, All
 fn asking_error(alloc: Global, word: QuestionWord, text: &str) -> Result<clap::Error, AllocError>
     ensures { IfOk result (λ error. kind_of error ≡ ErrorKind.ValueValidation) }
 {
-    asking_line(alloc, word)?
-        .bin_name(asking_name(word))?
-        .error(ErrorKind::ValueValidation, text)
+    let kind = ErrorKind::ValueValidation;
+    line_error(asking_line(alloc, word), asking_name(word), kind, text)
 }
 
 /// Builds the fault of what is wrong with the words of a question, in this text.
