@@ -210,14 +210,11 @@ fn analysis_word(name: &str) -> Option<QuestionWord>
     ensures known { is_some result ≡ is_analysis name.now }
     ensures word { IfSome result (λ word. name.now ≡ name_of_word word) }
 {
-    if name == IMPACT {
-        Some(QuestionWord::Impact)
-    } else if name == ASSERT {
-        Some(QuestionWord::Assert)
-    } else if name == UNUSED {
-        Some(QuestionWord::Unused)
-    } else {
-        None
+    match name {
+        IMPACT => Some(QuestionWord::Impact),
+        ASSERT => Some(QuestionWord::Assert),
+        UNUSED => Some(QuestionWord::Unused),
+        _ => None,
     }
 }
 
@@ -226,12 +223,10 @@ fn service_word(name: &str) -> Option<QuestionWord>
     ensures known { is_some result ≡ is_service name.now }
     ensures word { IfSome result (λ word. name.now ≡ name_of_word word) }
 {
-    if name == APPLY {
-        Some(QuestionWord::Apply)
-    } else if name == STATUS {
-        Some(QuestionWord::Status)
-    } else {
-        None
+    match name {
+        APPLY => Some(QuestionWord::Apply),
+        STATUS => Some(QuestionWord::Status),
+        _ => None,
     }
 }
 
@@ -251,24 +246,16 @@ fn question_word(name: &str) -> Option<QuestionWord>
     ensures known { is_some result ≡ asks_question (Some name.now) }
     ensures word { IfSome result (λ word. name.now ≡ name_of_word word) }
 {
-    if name == GET {
-        Some(QuestionWord::Tables(Verb::Get))
-    } else if name == SHOW {
-        Some(QuestionWord::Tables(Verb::Show))
-    } else if name == EXPLAIN {
-        Some(QuestionWord::Tables(Verb::Explain))
-    } else if name == DUMP {
-        Some(QuestionWord::Tables(Verb::Dump))
-    } else if name == DIFF {
-        Some(QuestionWord::Diff)
-    } else if name == FOLLOW {
-        Some(QuestionWord::Follow)
-    } else if name == WAIT {
-        Some(QuestionWord::Wait)
-    } else if name == IMPORT {
-        Some(QuestionWord::Import)
-    } else {
-        later_word(name)
+    match name {
+        GET => Some(QuestionWord::Tables(Verb::Get)),
+        SHOW => Some(QuestionWord::Tables(Verb::Show)),
+        EXPLAIN => Some(QuestionWord::Tables(Verb::Explain)),
+        DUMP => Some(QuestionWord::Tables(Verb::Dump)),
+        DIFF => Some(QuestionWord::Diff),
+        FOLLOW => Some(QuestionWord::Follow),
+        WAIT => Some(QuestionWord::Wait),
+        IMPORT => Some(QuestionWord::Import),
+        _ => later_word(name),
     }
 }
 
