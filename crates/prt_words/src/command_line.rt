@@ -326,13 +326,12 @@ fn with_questions<'a>(alloc: Global, command: Command<'a>) -> Result<Command<'a>
 fn opening_line<'a>(alloc: Global) -> Result<Command<'a>, AllocError>
     ensures { IfOk result (λ command. app_of command ≡ opening_line) }
 {
-    let command = Command::new(alloc, "prt")
-        .bin_name("prt")?
+    Command::new(alloc, "prt")
         .about("The table service of an IPv4 policy router")
         .version(VERSION)
         .subcommand_required(true)
-        .arg_required_else_help(true);
-    Ok(command)
+        .arg_required_else_help(true)
+        .bin_name("prt")
 }
 
 /// Says which words the program knows.
