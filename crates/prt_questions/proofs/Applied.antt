@@ -1,5 +1,5 @@
 -- Tables that were made those that are wanted.
-use Rattle.std.proofs.Common.{◌≡◌, ◌∙◌, List, Bool, true, false, refl, sym, ap, subst}
+use Rattle.std.proofs.Common.{◌≡◌, ◌∙◌, ℕ, List, Bool, true, false, refl, sym, ap, subst}
 use Rattle.sqlite.specs.Held.{Held}
 use Rattle.sqlite.specs.Store.{Ghosts}
 use Rattle.prt_apply.specs.Brings.{AreAlike}
@@ -14,7 +14,10 @@ use Rattle.prt_version.specs.Accepted.{IsAccepted}
 use Rattle.prt_version.specs.Change.{fold}
 use Rattle.prt_version.specs.Sound.{IsSound}
 use Rattle.prt_version.specs.State.{State}
-use Rattle.prt_questions.specs.Applying.{Leaves, MakesTables}
+use Rattle.prt_questions.specs.Applying.{IsPlanText, Leaves, MakesTables}
+use Rattle.prt_questions.specs.Tried.{IsTriedFor, IsTriedWith}
+use Rattle.prt_questions.specs.declared.apply_remote.Tried.{Tried}
+use Rattle.prt_questions.specs.declared.apply_remote.Tried.TheVariants.{Failed, Moved, Text}
 
 -- the commands of the plan were accepted, so they made the tables those that are wanted
 pub brought : (found wanted shown : State) (commands slice : List Command) (end : State) → shown ≡ found → IsSound shown → IsSound wanted → commands ≡ plan shown wanted → slice ≡ commands
@@ -33,3 +36,9 @@ makes_tables false wanted left same made = made refl
 -- the publisher was opened over the tables that were found
 pub over_found : {S : Type 0} (g : Ghosts S) (IsFound : Held S → Type 0) (begun : Standing (Held S)) (opens : OpensOne g IsFound begun) → OpensOne g (λ was. was ≡ opens.was) begun
 over_found g IsFound begun opens = record { was = opens.was; found = refl; format = opens.format; opened = opens.opened; begun = opens.begun }
+
+-- what was tried with the text of a plan
+pub tried_with : (tells : State → Type 0) (shows : Bool) (told wanted : State) (planned : List ℕ) (tried : Tried) → tells told → IsPlanText shows told wanted planned → IsTriedWith planned tried → IsTriedFor tells shows wanted tried
+tried_with tells shows told wanted planned (Text text) tells_it plans is = (told, tells_it, subst (IsPlanText shows told wanted) (sym is) plans)
+tried_with tells shows told wanted planned Moved tells_it plans is = tt
+tried_with tells shows told wanted planned (Failed status) tells_it plans is = is

@@ -1,11 +1,18 @@
 -- What a reader of a connection that has read nothing yet gives.
-use Rattle.std.proofs.Common.{◌≡◌, ◌∙◌, IfSome, ℕ, List, [], Option, Some, None, ap, refl, sym, subst}
-use Rattle.std.specs.Prelude.{◌==◌, if◌then◌else◌, ◌++◌}
+use Rattle.std.proofs.Common.{◌≡◌, ◌∙◌, IfOk, IfSome, ℕ, List, [], Option, Some, None, Result, Ok, Err, ap, refl, sym, subst}
+use Rattle.std.specs.Prelude.{◌==◌, if◌then◌else◌, ◌++◌, codes}
 use Rattle.std.specs.Io.Buffered.{reader_buffer, reader_capacity, reader_inner, reader_remaining}
 use Rattle.std.specs.Io.KnownBytes.{Consumes, Keeps, prepend_known}
 use Rattle.std.specs.declared.io.buffered.BufReader.{BufReader}
 use Rattle.prt_feed.specs.Reading.{IsOpening}
 use Rattle.prt_feed.specs.declared.opening.Opening.{Opening}
+use Rattle.prt_version.specs.State.{State}
+use Rattle.prt_words.specs.declared.server_place.ServerPlace.{ServerPlace}
+use Rattle.prt_questions.specs.Sources.{AreTold, IsReply}
+use Rattle.prt_questions.specs.Told.{IsFeedOf, IsReached, IsToldBy, IsToldIn}
+use Rattle.prt_questions.specs.declared.local.Socket.{Socket}
+use Rattle.prt_questions.specs.declared.remote.Told.{Told}
+use Rattle.prt_questions.specs.declared.remote.Told.TheVariants.{Reply, Tables}
 
 -- nothing goes before it
 nothing_before : (known : Option (List ℕ)) → prepend_known [] known ≡ known
@@ -46,3 +53,23 @@ pub all_of : (a b : Option (List ℕ)) (P : List ℕ → Type 0) → Keeps a b �
 all_of None b P kept all = tt
 all_of (Some xs) (Some ys) P kept all = subst P kept all
 all_of (Some xs) None P kept all = absurd kept
+
+-- what was read over a connection, over which a line was sent
+told_in : {N Stream : Type 0} (reaches : N → ServerPlace → Socket → List ℕ → Stream → Type 0) (said : Stream → Option (List ℕ)) (net : N) (place : ServerPlace) (line : List ℕ) (stream : Stream) → IsReached reaches net place (line ++ codes "\n") stream
+    → (known : Option (List ℕ)) → known ≡ said stream → (told : Told) → IsToldIn known told → IsToldBy reaches said net place line told
+told_in reaches said net place line stream reached known is (Tables version) read = record {
+  socket = reached.0;
+  sent = line ++ codes "\n";
+  stream = stream;
+  reached = reached.1;
+  rest = read.0;
+  opening = read.1;
+  read = subst (λ bytes. IsOpening bytes read.0 read.1) is read.2;
+  spelled = read.3;
+}
+told_in reaches said net place line stream reached known is (Reply reply) read = (reached.0, stream, reached.1, subst (λ bytes. IfSome bytes (λ all. reply.items ≡ all)) is read)
+
+pub told_by : {N Stream E : Type 0} (reaches : N → ServerPlace → Socket → List ℕ → Stream → Type 0) (said : Stream → Option (List ℕ)) (net : N) (place : ServerPlace) (line : List ℕ) (stream : Stream) → IsReached reaches net place (line ++ codes "\n") stream
+    → (known : Option (List ℕ)) → known ≡ said stream → (result : Result Told E) → IfOk result (IsToldIn known) → IfOk result (IsToldBy reaches said net place line)
+told_by reaches said net place line stream reached known is (Ok told) read = told_in reaches said net place line stream reached known is told read
+told_by reaches said net place line stream reached known is (Err reason) read = tt

@@ -1,6 +1,10 @@
 -- What a server said to the line of a query.
-use Rattle.std.specs.Prelude.{◌≡◌, ℕ, List, Option}
+use Rattle.std.specs.Prelude.{◌≡◌, ℕ, IfSome, List, Option}
+use Rattle.prt_feed.specs.Numbered.{numbered_from}
+use Rattle.prt_feed.specs.Reading.{IsOpening}
+use Rattle.prt_feed.specs.declared.opening.Opening.{Opening}
 use Rattle.prt_import.specs.TableNames.{names_of}
+use Rattle.prt_version.specs.RowsSpell.{RowsSpell}
 use Rattle.prt_version.specs.State.{State}
 use Rattle.prt_words.specs.declared.server_place.ServerPlace.{ServerPlace}
 use Rattle.prt_questions.specs.Asking.{called, said}
@@ -9,6 +13,10 @@ use Rattle.prt_questions.specs.declared.inquiry.Inquiry.{Inquiry}
 use Rattle.prt_questions.specs.declared.local.Socket.{Socket}
 use Rattle.prt_questions.specs.declared.remote.Told.{Told}
 use Rattle.prt_questions.specs.declared.remote.Told.TheVariants.{Reply, Tables}
+
+-- these bytes of a feed begin with these tables
+abbrev pub IsFeedOf : Option (List ℕ) → State → Type 0
+IsFeedOf bytes told = (rest : Option (List ℕ)) × (opening : Opening) × IsOpening bytes rest opening × RowsSpell opening.number (numbered_from 1 opening.version.rules) opening.version.routes told
 
 -- these tables were told, or this was replied
 abbrev pub TellsOrReplies : (tells : State → Type 0) → (replies : List ℕ → Type 0) → Told → Type 0
@@ -23,6 +31,10 @@ module _ {N Stream : Type 0} (reaches : N → ServerPlace → Socket → List �
   -- its feed told these tables, or a session replied this
   abbrev pub IsToldBy : (Stream → Option (List ℕ)) → N → ServerPlace → (line : List ℕ) → Told → Type 0
   IsToldBy said net place line told = TellsOrReplies (AreTold reaches said net place) (IsReply reaches said net place line) told
+
+-- these bytes are those of a feed, or of the reply of a session
+abbrev pub IsToldIn : Option (List ℕ) → Told → Type 0
+IsToldIn bytes told = TellsOrReplies (IsFeedOf bytes) (λ reply. IfSome bytes (λ all. reply ≡ all)) told
 
 -- a text is what was said to an inquiry: the answer of the tables, or the reply, with tables called as it asks
 abbrev pub IsSaidOf : Told → Inquiry → List ℕ → Type 0

@@ -2,7 +2,7 @@
 ghost use Rattle.std.specs.Prelude.{◌≡◌, ◌⊎◌};
 ghost use Rattle.prt_questions.specs.Applying.{IsPrinted, IsPrintedAtMost};
 ghost use Rattle.prt_questions.specs.Sources.{AreTold};
-ghost use Rattle.prt_questions.specs.Tried.{IsTriedFor};
+ghost use Rattle.prt_questions.specs.Tried.{IsTriedFor, IsTriedWith};
 ghost use Rattle.prt_version.specs.State.{State};
 
 use crate::applying::Manner;
@@ -68,6 +68,31 @@ enum Tried {
     Failed(u8),
 }
 
+/// Has a server make changes that were planned over its tables of this number, if it is told where it takes them.
+fn have_made<N: LocalNet, E: Write>(
+    rt: &N,
+    alloc: Global,
+    atomic: Option<ServerPlace<'_>>,
+    number: u64,
+    planned: Planned,
+    errors: &mut E,
+) -> Tried
+    ensures { IsTriedWith planned.text.items result }
+{
+    let Planned { commands, text } = planned;
+    let Some(atomic) = atomic else {
+        return Tried::Text(text);
+    };
+    match send(rt, alloc, &atomic, number, commands.as_slice()) {
+        Ok(Made::All) => Tried::Text(text),
+        Ok(Made::Moved) => Tried::Moved,
+        Err(reason) => {
+            tell(cause_message(alloc, &atomic, &reason), errors);
+            Tried::Failed(FAULT)
+        }
+    }
+}
+
 /// Works out the changes over the tables as they are now, and has the server make them unless they are only printed.
 fn try_once<N: LocalNet, W: Write, E: Write>(
     rt: &N,
@@ -88,30 +113,11 @@ fn try_once<N: LocalNet, W: Write, E: Write>(
             return Tried::Failed(FAULT);
         }
     };
-    let Planned { commands, text } = match plan_changes(
-        alloc,
-        &found,
-        wanted,
-        manner.shows_impact,
-    ) {
-        Ok(planned) => planned,
+    let atomic = if manner.is_dry_run { None } else { ends.atomic };
+    match plan_changes(alloc, &found, wanted, manner.shows_impact) {
+        Ok(planned) => have_made(rt, alloc, atomic, found.number(), planned, errors),
         Err(reason) => {
-            let status = report_unplanned(alloc, &ends.feed, reason, output, errors);
-            return Tried::Failed(status);
-        }
-    };
-    let Some(atomic) = &ends.atomic else {
-        return Tried::Text(text);
-    };
-    if manner.is_dry_run {
-        return Tried::Text(text);
-    }
-    match send(rt, alloc, atomic, found.number(), commands.as_slice()) {
-        Ok(Made::All) => Tried::Text(text),
-        Ok(Made::Moved) => Tried::Moved,
-        Err(reason) => {
-            tell(cause_message(alloc, atomic, &reason), errors);
-            Tried::Failed(FAULT)
+            Tried::Failed(report_unplanned(alloc, &ends.feed, reason, output, errors))
         }
     }
 }

@@ -16,14 +16,14 @@ use crate::databases::DatabaseFiles;
 use crate::left::tell_left;
 use crate::local::LocalNet;
 use crate::machine::{Machine, Wanted};
-use crate::opening::open_publisher;
+use crate::opening::{close_at, open_publisher, report_unopened};
 use crate::planning::{Planned, plan_changes, report_unplanned};
 use crate::reading::read_whole;
 use crate::telling::tell;
 use prt_command::Command;
 use prt_grace::Domain;
 use prt_import::Accepted;
-use prt_program::{ReadFiles, Refusal, cause_message, log_message};
+use prt_program::{ReadFiles, Refusal, cause_message};
 use prt_publisher::Publisher;
 use prt_version::Version;
 use prt_words::{Applying, DONE, FAULT, Fault, Target, report};
@@ -164,13 +164,7 @@ pub(crate) fn apply_to_database<
     let opened = open_publisher(&mut databases.machine, alloc, path, wanted_by(manner));
     let (mut publisher, domain) = match opened {
         Ok(made) => made,
-        Err((refusal, cause)) => {
-            let status = report(&Fault::Opening(refusal), output, errors);
-            if let Some(cause) = cause {
-                tell(cause_message(alloc, &path, &cause), errors);
-            }
-            return status;
-        }
+        Err(refused) => return report_unopened(alloc, path, refused, output, errors),
     };
     let status = make(
         &rt,
@@ -183,9 +177,8 @@ pub(crate) fn apply_to_database<
         output,
         errors,
     );
-    if let Err(reason) = databases.machine.close(publisher.end(&rt)) {
-        tell(log_message(alloc, path, &reason), errors);
-    }
+    let last = publisher.end(&rt);
+    close_at(&mut databases.machine, alloc, path, last, errors);
     status
 }
 

@@ -16,15 +16,15 @@ use crate::inquiry::{Inquiry, called, said};
 use crate::left::{tell_left, tell_left_out};
 use crate::local::LocalNet;
 use crate::machine::{Machine, Wanted};
-use crate::opening::open_desk;
+use crate::opening::{close_at, open_desk, report_unopened};
 use crate::reading::{names_for, read_whole, report_no_memory};
 use crate::remote::{Told, ask_line, read_tables};
 use crate::telling::tell;
 use prt_ask::{Answered, NotAnswered, Question, question_of};
 use prt_import::{Accepted, accept};
-use prt_program::{ReadFiles, cause_message, log_message, question_message};
+use prt_program::{ReadFiles, cause_message, question_message};
 use prt_replies::{Reply, Text, write_reply};
-use prt_words::{Asking, DONE, FAULT, Fault, Form, STANDARD_INPUT, ServerPlace, Source, report};
+use prt_words::{Asking, DONE, FAULT, Form, STANDARD_INPUT, ServerPlace, Source};
 use sqlite::{Alter, Connection};
 use std::alloc::{AllocError, Global};
 use std::fmt::Display;
@@ -159,18 +159,10 @@ fn ask_database<
     let opened = open_desk(&mut databases.machine, rt, alloc, path, Wanted::Ours);
     let desk = match opened {
         Ok(desk) => desk,
-        Err((refusal, cause)) => {
-            let status = report(&Fault::Opening(refusal), output, errors);
-            if let Some(cause) = cause {
-                tell(cause_message(alloc, &path, &cause), errors);
-            }
-            return status;
-        }
+        Err(refused) => return report_unopened(alloc, path, refused, output, errors),
     };
     let answered = said(alloc, desk.version(), inquiry);
-    if let Err(reason) = databases.machine.close(desk.end()) {
-        tell(log_message(alloc, path, &reason), errors);
-    }
+    close_at(&mut databases.machine, alloc, path, desk.end(), errors);
     write_answer(alloc, &path, answered, output, errors)
 }
 

@@ -1,6 +1,8 @@
 //! Whether claims about all packets hold.
 ghost use Rattle.std.specs.Prelude.{◌≡◌, ◌⊎◌, ◌++◌, [], IfOk, OnOk, true};
+ghost use Rattle.std.specs.Io.KnownBytes.{Appends};
 ghost use Rattle.prt_questions.specs.Analyses.{IsAsserted, IsAssertedAtMost, IsFoundAtMost, IsFoundOf, breach_lines, breaches_text};
+ghost use Rattle.prt_questions.specs.Asking.{IsCutOff};
 ghost use Rattle.prt_questions.specs.Sources.{Gives, IsFileOf, IsRead, after, path_of, rest_by, sources_of};
 
 use crate::asking::{REFUSED, write_text};
@@ -124,6 +126,32 @@ fn holds(checked: &Checked) -> bool
     checked.breaches.is_empty()
 }
 
+/// Writes the claims that don't hold over tables. The exit status is `REFUSED` if there is one, otherwise that for what was left
+/// out of the tables.
+fn write_breaches<W: Write, E: Write>(
+    alloc: Global,
+    tables: &Tables,
+    is_explained: bool,
+    checked: &Checked,
+    output: &mut W,
+    errors: &mut E,
+) -> u8
+    requires { (tables.now.left ≡ DONE) ⊎ (tables.now.left ≡ REFUSED) }
+    ensures status { (result ≡ DONE) ⊎ ((result ≡ REFUSED) ⊎ (result ≡ FAULT)) }
+    ensures whole { (result ≡ DONE) ⊎ (result ≡ REFUSED) → Appends (W.contents output.old) (W.contents output.new) (breaches_text is_explained tables.now.version checked.now.breaches.items) }
+    ensures hold { result ≡ DONE → checked.now.breaches.items ≡ [] }
+    ensures part { IsCutOff (breaches_text is_explained tables.now.version checked.now.breaches.items) (W.contents output.old) (W.contents output.new) }
+{
+    let Ok(shown) = text_of(alloc, &tables.version, is_explained, &checked.breaches) else {
+        return report_no_memory(output, errors);
+    };
+    let written = write_text(shown, output);
+    if written != DONE {
+        return written;
+    }
+    if holds(checked) { tables.left } else { REFUSED }
+}
+
 /// Checks the claims of a file over tables, and writes each that doesn't hold with a packet. The exit status is `REFUSED` if
 /// there is one, and `UNREADABLE` if a line is no claim, which standard error names: then nothing is written.
 fn assert_over<F: ReadFiles, R: Read, W: Write, E: Write>(
@@ -153,19 +181,14 @@ fn assert_over<F: ReadFiles, R: Read, W: Write, E: Write>(
         report_bad(alloc, file, &text, &checked.bad, errors);
         return UNREADABLE;
     }
-    let breaches = &checked.breaches;
-    let Ok(shown) = text_of(alloc, &tables.version, asserting.is_explained, breaches) else {
-        return report_no_memory(output, errors);
-    };
-    let written = write_text(shown, output);
-    if written != DONE {
-        return written;
-    }
-    if holds(&checked) {
-        tables.left
-    } else {
-        REFUSED
-    }
+    write_breaches(
+        alloc,
+        tables,
+        asserting.is_explained,
+        &checked,
+        output,
+        errors,
+    )
 }
 
 /// Checks claims about all packets over the tables at a source, and returns the exit status.

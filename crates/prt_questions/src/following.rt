@@ -1,21 +1,23 @@
 //! A kernel that follows a server, and the wait for a server.
-ghost use Rattle.std.specs.Prelude.{◌≡◌, ◌⊎◌};
+ghost use Rattle.std.specs.Prelude.{◌≡◌, ◌⊎◌, Bool, IfErr, IfOk};
+ghost use Rattle.prt_ask.specs.Mirrors.{Follows, mirror_of};
+ghost use Rattle.prt_diff.specs.Text.{changes_text};
 ghost use Rattle.prt_questions.specs.Asking.{HasFollowed, HasFollowedAtMost};
-ghost use Rattle.prt_questions.specs.Sources.{path_of, sources_of};
+ghost use Rattle.prt_questions.specs.Sources.{AreTold, path_of, sources_of};
+ghost use Rattle.prt_version.specs.State.{State};
 
 use crate::asking::{REFUSED, none_message, report_none, write_made};
-use crate::fencing::fence_beside;
-use crate::importing::read_listing;
+use crate::importing::{Fenced, read_fenced};
+use crate::left::or_left;
 use crate::local::LocalNet;
-use crate::reading::report_no_memory;
 use crate::remote::{is_there, open_feed};
 use crate::telling::tell;
-use prt_ask::{FollowEnd, Mirror, follow};
+use prt_ask::{Answered, FollowEnd, Mirror, follow};
 use prt_feed::NotRead;
 use prt_program::{ReadFiles, cause_message};
 use prt_words::{DONE, FAULT, Following, ServerPlace, Waiting};
 use std::alloc::Global;
-use std::io::{Read, Write};
+use std::io::{BufReader, Read, Write};
 use std::rt::Clock;
 use std::thread;
 use std::time::Duration;
@@ -33,6 +35,54 @@ fn tell_end<E: Write>(alloc: Global, place: &ServerPlace<'_>, end: FollowEnd, er
         FollowEnd::NoLines(reason) => tell(none_message(alloc, place, reason), errors),
         FollowEnd::Unwritten => {}
     }
+}
+
+/// Connects to the feed of a server, and begins to bring a listing to its tables. The reader is behind them.
+///
+/// # Errors
+///
+/// The exit status: the server doesn't send its tables, or there are no lines. The cause is reported.
+fn begin_at<N: LocalNet, W: Write, E: Write>(
+    rt: &N,
+    alloc: Global,
+    place: &ServerPlace<'_>,
+    listing: Fenced,
+    output: &mut W,
+    errors: &mut E,
+) -> Result<(BufReader<N::Stream>, Mirror, Answered), u8>
+    ensures begun { IfOk result (λ begun. (told : State) × AreTold N.reaches N.Stream.remaining rt.now place.now told × (begun.1 ≡ mirror_of listing.fence listing.found told) × (begun.2.text.items ≡ changes_text listing.fence listing.found told)) }
+    ensures fault { IfErr result (λ status. (status ≡ REFUSED) ⊎ (status ≡ FAULT)) }
+    ensures unwritten { W.contents output.new ≡ W.contents output.old }
+{
+    let (reader, wanted) = match open_feed(rt, alloc, place) {
+        Ok(opened) => opened,
+        Err(reason) => {
+            tell(cause_message(alloc, place, &reason), errors);
+            return Err(FAULT);
+        }
+    };
+    match Mirror::begin(alloc, listing.fence, listing.found, wanted) {
+        Ok((mirror, made)) => Ok((reader, mirror, made)),
+        Err(reason) => Err(report_none(alloc, place, reason, output, errors)),
+    }
+}
+
+/// Prints the lines for each change that a feed reports, until it ends or one has no lines, and returns the exit status.
+fn follow_on<R: Read + Drop, W: Write, E: Write>(
+    alloc: Global,
+    place: &ServerPlace<'_>,
+    mut reader: R,
+    mut mirror: Mirror,
+    told: String,
+    output: &mut W,
+    errors: &mut E,
+) -> u8
+    ensures status { result ≡ FAULT }
+    ensures follows { (after : Mirror) × (is_whole : Bool) × Follows mirror after is_whole (W.contents output.old) (W.contents output.new) }
+{
+    let end = follow(alloc, &mut mirror, &mut reader, told, output, errors);
+    tell_end(alloc, place, end, errors);
+    FAULT
 }
 
 /// Prints the lines that bring what `ip` printed to the tables of a server, within a fence. Then it prints those for each
@@ -54,33 +104,22 @@ pub(crate) fn follow_server<F: ReadFiles, N: LocalNet, R: Read, W: Write, E: Wri
     ensures at_most { HasFollowedAtMost (sources_of F.opens F.Opened.remaining files.now N.reaches N.Stream.remaining rt.now (R.remaining input.old)) (W.contents output.old) (W.contents output.new) (path_of following.now.file) following.now.server following.now.reach }
 {
     let place = &following.server;
-    let read = read_listing(files, alloc, following.file, input, output, errors);
-    let (accepted, left, unread) = match read {
-        Ok(read) => read,
+    let (file, reach) = (following.file, &following.reach);
+    let listing = match read_fenced(files, alloc, file, reach, input, output, errors) {
+        Ok(listing) => listing,
         Err(status) => return status,
     };
-    let Ok(fence) = fence_beside(files, alloc, &following.reach, &unread) else {
-        return report_no_memory(output, errors);
-    };
-    let (mut reader, wanted) = match open_feed(rt, alloc, place) {
-        Ok(opened) => opened,
-        Err(reason) => {
-            tell(cause_message(alloc, place, &reason), errors);
-            return FAULT;
-        }
-    };
-    let (mut mirror, made) = match Mirror::begin(alloc, fence, accepted.version, wanted) {
+    let left = listing.left;
+    let (reader, mirror, made) = match begin_at(rt, alloc, place, listing, output, errors) {
         Ok(begun) => begun,
-        Err(reason) => return report_none(alloc, place, reason, output, errors),
+        Err(status) => return status,
     };
     let told = made.notes.rest().unwrap_or_else(|_| String::new(alloc));
     let written = write_made(made, output, errors);
     if following.is_once || written == FAULT {
-        return if written == DONE { left } else { written };
+        return or_left(written, left);
     }
-    let end = follow(alloc, &mut mirror, &mut reader, told, output, errors);
-    tell_end(alloc, place, end, errors);
-    FAULT
+    follow_on(alloc, place, reader, mirror, told, output, errors)
 }
 
 /// Returns the time by the clock that never goes back; 0 if it can't be read.

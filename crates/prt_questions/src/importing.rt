@@ -1,6 +1,7 @@
 //! What `ip` prints, as a script, and what differs from it.
 ghost use Rattle.std.specs.Prelude.{◌≡◌, ◌⊎◌, IfErr, IfOk, OnOk, []};
 ghost use Rattle.prt_questions.specs.Asking.{AreKept, AreLinesOf, HasCompared, HasComparedAtMost, IsAskedOf, IsListing, IsMadeOf, IsNotAsked, IsWholeListing, said};
+ghost use Rattle.prt_questions.specs.Fencing.{IsFenceOf};
 ghost use Rattle.prt_questions.specs.Sources.{HasLeft, IsFileOf, IsRead, path_of, rest_after, sources_of};
 ghost use Rattle.prt_questions.specs.Importing.{HasImported, HasImportedAtMost, IsImported, IsImportedAtMost};
 ghost use Rattle.prt_import.specs.Imported.{IsImportOf};
@@ -13,15 +14,17 @@ use crate::databases::DatabaseFiles;
 use crate::fencing::fence_beside;
 use crate::impact_of_diff::diff_with_impact;
 use crate::inquiry::Inquiry;
-use crate::left::tell_left;
+use crate::left::{or_left, tell_left};
 use crate::local::LocalNet;
 use crate::machine::Machine;
 use crate::reading::{host_names, read_whole, report_no_memory, report_unread};
 use prt_ask::{Comparison, Question};
+use prt_diff::Fence;
 use prt_import::{Accepted, Imported, Left, Names, accept, check_listing, import};
 use prt_ip_json::{NotListed, is_json, listing_of};
 use prt_program::{ReadFiles, Refusal};
-use prt_words::{DONE, Diffing, FAULT, Form, Importing, Labels, Shown, Source};
+use prt_version::Version;
+use prt_words::{DONE, Diffing, FAULT, Form, Importing, Labels, Reach, Shown, Source};
 use sqlite::{Alter, Connection};
 use std::alloc::Global;
 use std::io::{Read, Write};
@@ -108,6 +111,50 @@ pub(crate) fn read_listing<F: ReadFiles, R: Read, W: Write, E: Write>(
     }
     match keep_lines(files, alloc, &lines, errors) {
         Ok(read) => Ok(read),
+        Err(_) => Err(report_no_memory(output, errors)),
+    }
+}
+
+/// The tables that a listing makes, and what of them is compared.
+#[derive(Drop)]
+pub(crate) struct Fenced {
+    pub(crate) found: Version,
+    /// It has nothing that is in the place of a line that can't be kept.
+    pub(crate) fence: Fence,
+    /// The exit status for what was reported of those lines.
+    pub(crate) left: u8,
+}
+
+/// Reads what `ip` printed, as `read_listing` does, and makes the fence that words name.
+///
+/// # Errors
+///
+/// The exit status, as of `read_listing`.
+pub(crate) fn read_fenced<F: ReadFiles, R: Read, W: Write, E: Write>(
+    files: &F,
+    alloc: Global,
+    file: Option<&str>,
+    reach: &Reach,
+    input: &mut R,
+    output: &mut W,
+    errors: &mut E,
+) -> Result<Fenced, u8>
+    ensures made { IfOk result (λ listing. (accepted : Accepted) × IsListing (IsRead (IsFileOf F.opens F.Opened.remaining files.now) (R.remaining input.old) (path_of file.entry)) accepted × (listing.found ≡ accepted.version)) }
+    ensures status { IfOk result (λ listing. (listing.left ≡ DONE) ⊎ (listing.left ≡ REFUSED)) }
+    ensures kept { IfOk result (λ listing. listing.left ≡ DONE → (accepted : Accepted) × IsWholeListing (IsRead (IsFileOf F.opens F.Opened.remaining files.now) (R.remaining input.old) (path_of file.entry)) accepted × (listing.found ≡ accepted.version)) }
+    ensures fence { IfOk result (λ listing. IsFenceOf reach.now listing.fence) }
+    ensures left { OnOk result (HasLeft (rest_after (path_of file.entry)) (R.remaining input.old) (R.remaining input.new)) }
+    ensures fault { IfErr result (λ status. status ≡ FAULT) }
+    ensures unwritten { W.contents output.new ≡ W.contents output.old }
+{
+    let read = read_listing(files, alloc, file, input, output, errors);
+    let (accepted, left, unread) = match read {
+        Ok(read) => read,
+        Err(status) => return Err(status),
+    };
+    let found = accepted.version;
+    match fence_beside(files, alloc, reach, &unread) {
+        Ok(fence) => Ok(Fenced { found, fence, left }),
         Err(_) => Err(report_no_memory(output, errors)),
     }
 }
@@ -250,18 +297,14 @@ pub(crate) fn diff<
     ensures whole { result ≡ DONE → HasCompared S.Store M.opens M.refuses M.closes (sources_of F.opens F.Opened.remaining databases.old.files.now N.reaches N.Stream.remaining databases.old.rt (R.remaining input.old)) databases.old.machine databases.new.machine (W.contents output.old) (W.contents output.new) (path_of diffing.now.file) diffing.now.reach diffing.now.shown diffing.now.source }
     ensures at_most { HasComparedAtMost S.Store M.opens M.refuses M.closes (sources_of F.opens F.Opened.remaining databases.old.files.now N.reaches N.Stream.remaining databases.old.rt (R.remaining input.old)) databases.old.machine databases.new.machine (W.contents output.old) (W.contents output.new) (path_of diffing.now.file) diffing.now.reach diffing.now.shown diffing.now.source }
 {
-    let read = read_listing(databases.files, alloc, diffing.file, input, output, errors);
-    let (accepted, left, unread) = match read {
-        Ok(read) => read,
+    let (files, file, reach) = (databases.files, diffing.file, &diffing.reach);
+    let listing = match read_fenced(files, alloc, file, reach, input, output, errors) {
+        Ok(listing) => listing,
         Err(status) => return status,
     };
-    let made = fence_beside(databases.files, alloc, &diffing.reach, &unread);
-    let Ok(fence) = made else {
-        return report_no_memory(output, errors);
-    };
     let comparison = Comparison {
-        fence: &fence,
-        found: &accepted.version,
+        fence: &listing.fence,
+        found: &listing.found,
     };
     let inquiry = Inquiry {
         question: Question::Diff(comparison),
@@ -277,5 +320,5 @@ pub(crate) fn diff<
         }
         Shown::Status => compare(databases, alloc, source, &inquiry, input, errors),
     };
-    if asked == DONE { left } else { asked }
+    or_left(asked, listing.left)
 }

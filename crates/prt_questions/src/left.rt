@@ -1,5 +1,5 @@
 //! What is reported of lines that are left out.
-ghost use Rattle.std.specs.Prelude.{◌≡◌, ◌⊎◌, false};
+ghost use Rattle.std.specs.Prelude.{◌≡◌, ◌≢◌, ◌⊎◌, false};
 ghost use Rattle.std.specs.List.{list_all};
 ghost use Rattle.prt_questions.specs.Asking.{AreKernels, destination_of, is_kernels};
 
@@ -60,6 +60,13 @@ pub(crate) fn tell_left<E: Write>(
 {
     tell_others(alloc, file, left, errors);
     if are_kernels(left) { DONE } else { REFUSED }
+}
+
+/// Returns the exit status for what was done, or if that is `DONE`, the one for what was left out before.
+pub(crate) fn or_left(done: u8, left: u8) -> u8
+    ensures { ((done ≡ DONE) × (result ≡ left)) ⊎ ((done ≢ DONE) × (result ≡ done)) }
+{
+    if done == DONE { left } else { done }
 }
 
 /// Returns the destination of the packet of the question, if it has one.

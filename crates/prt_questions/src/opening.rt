@@ -11,12 +11,15 @@ ghost use Rattle.prt_version.specs.Sound.{IsSound};
 
 use crate::cause::{Cause, cause_of, close_refused};
 use crate::machine::{Machine, Wanted};
+use crate::telling::tell;
 use prt_desk::StoreDesk;
 use prt_grace::Domain;
-use prt_program::Refusal;
+use prt_program::{Refusal, cause_message, log_message};
 use prt_publisher::{Phase, Publisher, publisher_over};
+use prt_words::{FAULT, Fault, report};
 use sqlite::{Alter, Connection};
 use std::alloc::Global;
+use std::io::Write;
 use std::sync::Wait;
 
 /// Opens a publisher over the database at a path of the machine, if it is one that is wanted.
@@ -78,5 +81,39 @@ pub(crate) fn open_desk<S: Alter + Drop, M: Machine<Connection<S>>, H: Wait + Co
     match open_publisher(machine, alloc, path, wanted) {
         Ok((publisher, domain)) => Ok(StoreDesk::new(rt, publisher, domain)),
         Err(refused) => Err(refused),
+    }
+}
+
+/// Reports why a database could not be opened, and returns the exit status for it.
+pub(crate) fn report_unopened<W: Write, E: Write>(
+    alloc: Global,
+    path: &str,
+    refused: (Refusal, Option<Cause>),
+    output: &mut W,
+    errors: &mut E,
+) -> u8
+    ensures status { result ≡ FAULT }
+    ensures unwritten { W.contents output.new ≡ W.contents output.old }
+{
+    let (refusal, cause) = refused;
+    let status = report(&Fault::Opening(refusal), output, errors);
+    if let Some(cause) = cause {
+        tell(cause_message(alloc, &path, &cause), errors);
+    }
+    status
+}
+
+/// Closes the database at a path, and reports it if its log could not be moved into its file.
+pub(crate) fn close_at<C, M: Machine<C>, E: Write>(
+    machine: &mut M,
+    alloc: Global,
+    path: &str,
+    conn: C,
+    errors: &mut E,
+)
+    ensures { M.closes machine.old machine.new conn }
+{
+    if let Err(reason) = machine.close(conn) {
+        tell(log_message(alloc, path, &reason), errors);
     }
 }

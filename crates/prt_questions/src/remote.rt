@@ -1,9 +1,9 @@
 //! What a server says: its feed the tables, a session the reply to a line.
-ghost use Rattle.std.specs.Prelude.{IfOk};
+ghost use Rattle.std.specs.Prelude.{◌≡◌, ◌++◌, IfOk, IfSome, codes};
 ghost use Rattle.std.specs.Io.Buffered.{reader_remaining};
 ghost use Rattle.std.specs.Io.KnownBytes.{Keeps};
 ghost use Rattle.prt_questions.specs.Sources.{AreTold};
-ghost use Rattle.prt_questions.specs.Told.{IsReached, IsToldBy};
+ghost use Rattle.prt_questions.specs.Told.{IsFeedOf, IsReached, IsToldBy, IsToldIn};
 
 use crate::local::{LocalNet, Socket};
 use itoa::Buffer;
@@ -152,6 +152,35 @@ fn reach_to_ask<N: LocalNet>(
     }
 }
 
+/// Reads the tables that a feed begins with.
+fn read_version<R: Read>(alloc: Global, reader: &mut R) -> Result<Version, NotTold>
+    ensures { IfOk result (IsFeedOf (R.remaining reader.old)) }
+{
+    let opening = read_opening(alloc, reader)?;
+    Ok(opening.into_version(alloc)?)
+}
+
+/// Reads the tables of a feed, if one is at the other end. The reader is behind them.
+///
+/// # Errors
+///
+/// As of `open_feed`.
+fn read_feed<T: Read + Write + OpenStream>(
+    alloc: Global,
+    reader: &mut BufReader<T>,
+    stream: &mut T,
+) -> Result<Version, NotTold>
+    ensures { IfOk result (IsFeedOf (reader_remaining T.remaining reader.old)) }
+{
+    if !is_feed(reader, stream)? {
+        return Err(NotTold::NoFeed);
+    }
+    let version = read_version(alloc, reader)?;
+    // After its tables a feed may be silent for longer.
+    stream.set_read_timeout(Some(Duration::from_secs(SILENCE)))?;
+    Ok(version)
+}
+
 /// Connects to the feed of a server, and reads the tables as they are now. The reader is behind them.
 ///
 /// # Errors
@@ -168,13 +197,7 @@ pub(crate) fn open_feed<N: LocalNet>(
     let stream = rt.reach(alloc, place, Socket::Feed, patience, &[])?;
     let mut same = stream.try_clone()?;
     let mut reader = BufReader::new(alloc, stream)?;
-    if !is_feed(&mut reader, &mut same)? {
-        return Err(NotTold::NoFeed);
-    }
-    let opening = read_opening(alloc, &mut reader)?;
-    let version = opening.into_version(alloc)?;
-    // After its tables a feed may be silent for longer.
-    same.set_read_timeout(Some(Duration::from_secs(SILENCE)))?;
+    let version = read_feed(alloc, &mut reader, &mut same)?;
     Ok((reader, version))
 }
 
@@ -213,6 +236,52 @@ fn is_whole(reply: &[u8]) -> bool {
     LAST_LINES.iter().any(|opening| last.starts_with(opening))
 }
 
+/// Reads the reply of a session to a query.
+///
+/// # Errors
+///
+/// `NoAnswer` if it isn't whole. Otherwise what befell the connection.
+fn read_reply<R: Read>(alloc: Global, reader: &mut R) -> Result<Vec<u8>, NotTold>
+    ensures { IfOk result (λ reply. IfSome (R.remaining reader.old) (λ all. reply.items ≡ all)) }
+{
+    let mut reply = Vec::new(alloc);
+    reader.read_to_end(&mut reply)?;
+    if is_whole(&reply) {
+        Ok(reply)
+    } else {
+        Err(NotTold::NoAnswer)
+    }
+}
+
+/// Reads what a server says to a query: a session the reply, a feed the tables.
+fn read_told<R: Read>(alloc: Global, reader: &mut BufReader<R>) -> Result<Told, NotTold>
+    ensures { IfOk result (IsToldIn (reader_remaining R.remaining reader.old)) }
+{
+    if first_byte(reader)? == Some(FEED) {
+        Ok(Told::Tables(read_version(alloc, reader)?))
+    } else {
+        Ok(Told::Reply(read_reply(alloc, reader)?))
+    }
+}
+
+/// Connects to a server as `reach_to_ask` does, and sends it a line, which is all that it is sent.
+fn send_line<N: LocalNet>(
+    rt: &N,
+    alloc: Global,
+    place: &ServerPlace<'_>,
+    line: &[u8],
+) -> Result<N::Stream, NotTold>
+    ensures { IfOk result (IsReached N.reaches rt.now place.now (line.now ++ codes "\n")) }
+{
+    let patience = Duration::from_secs(PATIENCE);
+    let mut sent = Vec::from_slice(alloc, line)?;
+    sent.extend_from_slice(b"\n")?;
+    let stream = reach_to_ask(rt, alloc, place, patience, &sent)?;
+    // A session ends with its last line.
+    stream.shutdown(Shutdown::Write)?;
+    Ok(stream)
+}
+
 /// Sends the line of a query to a server, and reads what it says: a session the reply, a feed the tables.
 pub(crate) fn ask_line<N: LocalNet>(
     rt: &N,
@@ -222,24 +291,9 @@ pub(crate) fn ask_line<N: LocalNet>(
 ) -> Result<Told, NotTold>
     ensures { IfOk result (IsToldBy N.reaches N.Stream.remaining rt.now place.now line.now) }
 {
-    let patience = Duration::from_secs(PATIENCE);
-    let mut sent = Vec::from_slice(alloc, line)?;
-    sent.extend_from_slice(b"\n")?;
-    let stream = reach_to_ask(rt, alloc, place, patience, &sent)?;
-    // A session ends with its last line.
-    stream.shutdown(Shutdown::Write)?;
+    let stream = send_line(rt, alloc, place, line)?;
     let mut reader = BufReader::new(alloc, stream)?;
-    if first_byte(&mut reader)? == Some(FEED) {
-        let opening = read_opening(alloc, &mut reader)?;
-        return Ok(Told::Tables(opening.into_version(alloc)?));
-    }
-    let mut reply = Vec::new(alloc);
-    reader.read_to_end(&mut reply)?;
-    if is_whole(&reply) {
-        Ok(Told::Reply(reply))
-    } else {
-        Err(NotTold::NoAnswer)
-    }
+    read_told(alloc, &mut reader)
 }
 
 /// What a server made of changes.
@@ -290,6 +344,56 @@ pub(crate) fn expect_atomic<N: LocalNet>(
     Err(NotTold::NoAtomic)
 }
 
+/// Connects to the atomic scripts of a server, and sends it over which number so many changes are made.
+fn reach_to_change<N: LocalNet>(
+    rt: &N,
+    alloc: Global,
+    atomic: &ServerPlace<'_>,
+    number: u64,
+    count: usize,
+) -> Result<N::Stream, NotTold> {
+    let patience = Duration::from_secs(PATIENCE);
+    // What is cut off before its last command is not made.
+    let head = format!(in alloc; "at {number}\ncommands {count}\n")?;
+    Ok(rt.reach(alloc, atomic, Socket::Atomic, patience, head.as_bytes())?)
+}
+
+/// Sends lines, and reads all that is replied.
+///
+/// # Errors
+///
+/// `Unknown` if the reply can't be read to its end. Otherwise what befell the connection before.
+fn exchange<T: Read + Write + OpenStream>(
+    alloc: Global,
+    stream: &mut T,
+    lines: &[u8],
+) -> Result<Vec<u8>, NotTold> {
+    stream.write_all(lines)?;
+    stream.shutdown(Shutdown::Write)?;
+    let mut reply = Vec::new(alloc);
+    match stream.read_to_end(&mut reply) {
+        Ok(_) => Ok(reply),
+        Err(_) => Err(NotTold::Unknown),
+    }
+}
+
+/// Finds what a server made of so many changes over its tables at a number by its reply.
+///
+/// # Errors
+///
+/// `Unknown` if the reply doesn't say it, and the server's refusal.
+fn made_by(alloc: Global, reply: &[u8], number: u64, count: usize) -> Result<Made, NotTold> {
+    if accepts_all(reply, number, count) {
+        Ok(Made::All)
+    } else if reply.starts_with(MOVED) {
+        Ok(Made::Moved)
+    } else if reply.starts_with(b"error ") && reply.ends_with(b"\n") {
+        Err(NotTold::Refused(refused_text(alloc, reply)?))
+    } else {
+        Err(NotTold::Unknown)
+    }
+}
+
 /// Sends a server the lines of so many changes over its tables at a number, and reads what it makes of them: all, or none.
 ///
 /// # Errors
@@ -304,25 +408,9 @@ pub(crate) fn send_changes<N: LocalNet>(
     count: usize,
     lines: &[u8],
 ) -> Result<Made, NotTold> {
-    let patience = Duration::from_secs(PATIENCE);
-    // What is cut off before its last command is not made.
-    let head = format!(in alloc; "at {number}\ncommands {count}\n")?;
-    let mut stream = rt.reach(alloc, atomic, Socket::Atomic, patience, head.as_bytes())?;
-    stream.write_all(lines)?;
-    stream.shutdown(Shutdown::Write)?;
-    let mut reply = Vec::new(alloc);
-    if stream.read_to_end(&mut reply).is_err() {
-        return Err(NotTold::Unknown);
-    }
-    if accepts_all(&reply, number, count) {
-        Ok(Made::All)
-    } else if reply.starts_with(MOVED) {
-        Ok(Made::Moved)
-    } else if reply.starts_with(b"error ") && reply.ends_with(b"\n") {
-        Err(NotTold::Refused(refused_text(alloc, &reply)?))
-    } else {
-        Err(NotTold::Unknown)
-    }
+    let mut stream = reach_to_change(rt, alloc, atomic, number, count)?;
+    let reply = exchange(alloc, &mut stream, lines)?;
+    made_by(alloc, &reply, number, count)
 }
 
 /// Returns the first line of a refusal, as far as it can be printed.

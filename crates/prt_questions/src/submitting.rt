@@ -287,6 +287,36 @@ fn collect_script<'a, F: ReadFiles, R: Read, W: Write, E: Write + Drop, K: Clock
     Ok(read)
 }
 
+/// Reads a script, has a server make its commands together, and returns the exit status. The messages say how it ended.
+fn submit_read<'a, F: ReadFiles, N: LocalNet, R: Read, W: Write, E: Write + Drop, K: Clock + Drop>(
+    files: &F,
+    rt: &N,
+    alloc: Global,
+    submitting: &Submitting<'a>,
+    input: &mut R,
+    output: &mut W,
+    messages: &mut Messages<'a, E, K>,
+) -> u8
+    ensures run { IsSubmitted (sources_of F.opens F.Opened.remaining files.now N.reaches N.Stream.remaining rt.now (R.remaining input.old)) submitting.now.server (path_of submitting.now.file) (W.contents output.old) (W.contents output.new) result }
+    ensures whole { result ≡ DONE → IsAllMade (sources_of F.opens F.Opened.remaining files.now N.reaches N.Stream.remaining rt.now (R.remaining input.old)) submitting.now.server (path_of submitting.now.file) (W.contents output.old) (W.contents output.new) }
+{
+    let read = match collect_script(files, alloc, submitting.file, input, output, messages) {
+        Ok(read) => read,
+        Err(fault) => return messages.report(&fault, output),
+    };
+    match submit(rt, alloc, &submitting.server, &read, output) {
+        Ok(end) => {
+            messages.count_refusal(end);
+            messages.finish();
+            exit_status(end)
+        }
+        Err(reason) => {
+            messages.tell(cause_message(alloc, &submitting.server, &reason));
+            FAULT
+        }
+    }
+}
+
 /// Has a server make the commands of a script together, writes what it replies, and returns the exit status.
 ///
 /// The script is read as by `run_atomic`, and its first refusal is all that is written; then nothing is sent, and so it is of a
@@ -318,19 +348,5 @@ pub fn submit_script<
         messages.turn_on();
     }
     messages.begin(submitting.file.unwrap_or(STANDARD_INPUT), &*output);
-    let read = match collect_script(files, alloc, submitting.file, input, output, &mut messages) {
-        Ok(read) => read,
-        Err(fault) => return messages.report(&fault, output),
-    };
-    match submit(rt, alloc, &submitting.server, &read, output) {
-        Ok(end) => {
-            messages.count_refusal(end);
-            messages.finish();
-            exit_status(end)
-        }
-        Err(reason) => {
-            messages.tell(cause_message(alloc, &submitting.server, &reason));
-            FAULT
-        }
-    }
+    submit_read(files, rt, alloc, submitting, input, output, &mut messages)
 }

@@ -11,13 +11,13 @@ use crate::databases::DatabaseFiles;
 use crate::left::tell_left;
 use crate::local::LocalNet;
 use crate::machine::{Machine, Wanted};
-use crate::opening::open_desk;
+use crate::opening::{close_at, open_desk, report_unopened};
 use crate::reading::{read_whole, report_no_memory};
 use crate::remote::read_tables;
 use crate::telling::tell;
-use prt_program::{ReadFiles, cause_message, log_message};
+use prt_program::{ReadFiles, cause_message};
 use prt_version::Version;
-use prt_words::{DONE, FAULT, Fault, ServerPlace, Source, report};
+use prt_words::{DONE, FAULT, ServerPlace, Source};
 use sqlite::{Alter, Connection};
 use std::alloc::Global;
 use std::io::{Read, Write};
@@ -61,18 +61,10 @@ fn database_tables<
     let opened = open_desk(&mut databases.machine, rt, alloc, path, Wanted::Ours);
     let desk = match opened {
         Ok(desk) => desk,
-        Err((refusal, cause)) => {
-            let status = report(&Fault::Opening(refusal), output, errors);
-            if let Some(cause) = cause {
-                tell(cause_message(alloc, &path, &cause), errors);
-            }
-            return Err(status);
-        }
+        Err(refused) => return Err(report_unopened(alloc, path, refused, output, errors)),
     };
     let shared = desk.version().share();
-    if let Err(reason) = databases.machine.close(desk.end()) {
-        tell(log_message(alloc, path, &reason), errors);
-    }
+    close_at(&mut databases.machine, alloc, path, desk.end(), errors);
     match shared {
         Ok(version) => Ok(Tables {
             version,

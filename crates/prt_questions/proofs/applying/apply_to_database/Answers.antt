@@ -7,29 +7,29 @@ pub returns-clause-whole : goal.returns-clause-whole
 returns-clause-whole g c = λ done.
     let opened = c.in-Ok.ensures.opened in
     let made = c.make-status.ensures in
-    let left : Leaves g.S.Store c.in-Ok.made.0 c.end.result = record { done = c.make-status.new.publisher; its = sym c.end.ensures.tables; quiet = made.quiet; file = made.file; stands = c.end.ensures.stands } in
+    let left : Leaves g.S.Store c.in-Ok.made.0 c.end-last.result = record { done = c.make-status.new.publisher; its = sym c.end-last.ensures.tables; quiet = made.quiet; file = made.file; stands = c.end-last.ensures.stands } in
     record {
       between = c.open_publisher-opened.new.machine;
       first = opened.was;
-      last = c.end.result;
+      last = c.end-last.result;
       is_opened = subst (λ wanted. g.M.Machine.opens wanted c.args.databases.now.machine c.open_publisher-opened.new.machine c.args.path.now opened.was) c.wanted_by.ensures opened.found;
       made = (c.in-Ok.made.0, over_found g.S.Store _ _ opened, (left, makes_tables c.args.manner.is_dry_run c.args.wanted.now left made.dry (made.made done)), made.whole done);
-      is_closed = c.close.ensures;
+      is_closed = c.close_at.ensures;
     }
 
 pub returns-clause-at_most : goal.returns-clause-at_most
 returns-clause-at_most g c =
     let opened = c.in-Ok.ensures.opened in
     let made = c.make-status.ensures in
-    let left : Leaves g.S.Store c.in-Ok.made.0 c.end.result = record { done = c.make-status.new.publisher; its = sym c.end.ensures.tables; quiet = made.quiet; file = made.file; stands = c.end.ensures.stands } in
+    let left : Leaves g.S.Store c.in-Ok.made.0 c.end-last.result = record { done = c.make-status.new.publisher; its = sym c.end-last.ensures.tables; quiet = made.quiet; file = made.file; stands = c.end-last.ensures.stands } in
     inr (record {
       between = c.open_publisher-opened.new.machine;
       first = opened.was;
-      last = c.end.result;
+      last = c.end-last.result;
       is_opened = subst (λ wanted. g.M.Machine.opens wanted c.args.databases.now.machine c.open_publisher-opened.new.machine c.args.path.now opened.was) c.wanted_by.ensures opened.found;
       made = (c.in-Ok.made.0, over_found g.S.Store _ _ opened, left, made.part);
-      is_closed = c.close.ensures;
+      is_closed = c.close_at.ensures;
     })
 
-pub returns-in_default-clause-at_most : goal.returns-in_default-clause-at_most
-returns-in_default-clause-at_most g c = rw (sym c.wanted_by.ensures) (inl (inr (c.in-Err.refusal, c.in-Err.ensures.closed), search (rules, c.report-status.ensures)))
+pub returns-in-Err-clause-at_most : goal.returns-in-Err-clause-at_most
+returns-in-Err-clause-at_most g c = rw (sym c.wanted_by.ensures) (inl (inr (c.in-Err.refused.0, c.in-Err.ensures.closed), search (rules, c.report_unopened.ensures)))

@@ -21,7 +21,7 @@ returns g c =
         last = c.end.result;
         is_opened = opened.found;
         made = (stored, kept, c.write_answer.ensures.whole text says done);
-        is_closed = c.close.ensures;
+        is_closed = c.close_at.ensures;
       };
       there = λ done. c.in-Ok.ensures.there refl;
       at_most = inr (record {
@@ -30,6 +30,6 @@ returns g c =
         last = c.end.result;
         is_opened = opened.found;
         made = (stored, kept, c.write_answer.ensures.part text says);
-        is_closed = c.close.ensures;
+        is_closed = c.close_at.ensures;
       });
     }

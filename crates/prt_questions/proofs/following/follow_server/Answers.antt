@@ -1,50 +1,66 @@
-use Rattle.std.proofs.Common.{rules, ◌≡◌, ◌⊎◌, ℕ, List, [], Option, true, false, inl, inr, subst}
+use Rattle.std.proofs.Common.{rules, ◌≡◌, ◌⊎◌, ◌∙◌, ℕ, List, [], Option, true, false, inl, inr, ap, subst}
 use Rattle.std.specs.Io.KnownBytes.{Appends}
+use Rattle.prt_diff.specs.Text.{changes_text}
 use Rattle.prt_replies.specs.Written.{Written}
 use Rattle.prt_words.specs.declared.fault.TheConstants.{DONE}
+use Rattle.prt_questions.specs.Asking.{follow_text}
 use Rattle.prt_questions.specs.declared.asking.TheConstants.{REFUSED}
 use Rattle.prt_questions.proofs.Followed.{first_lines, lines_after}
-use Rattle.prt_questions.proofs.following.follow_server.Goals.{then-written-eq-DONE, else-written-eq-DONE}
 use Rattle.prt_questions.proofs.following.follow_server.Goals as goal
 
 pub returns-then-following-clause-whole : goal.returns-then-following-clause-whole
 returns-then-following-clause-whole g c = λ done.
-    let wrote : c.write_made-written.result ≡ DONE = elim c.if-written-eq-DONE.branch [ then-written-eq-DONE w ↦ search (rules, w.if-written-eq-DONE) | else-written-eq-DONE w ↦ search (rules, w.if-written-eq-DONE, w.result-is, done) ] in
-    let left : c.in-Ok.read.1 ≡ DONE = elim c.if-written-eq-DONE.branch [ then-written-eq-DONE w ↦ search (rules, w.result-is, done) | else-written-eq-DONE w ↦ search (rules, w.if-written-eq-DONE, w.result-is, done) ] in (
-      c.in-Ok.read.0,
-      c.in-Ok.ensures.kept left,
-      c.in-Ok-fence_beside.fence,
-      c.in-Ok-fence_beside.ensures,
-      c.in-Ok-open_feed.opened.1,
-      c.in-Ok-open_feed.ensures,
-      subst (Appends (g.W.Write.contents c.args.output.now) (g.W.Write.contents c.write_made-written.new.output)) c.in-Ok-begin.ensures.text
-          (subst (λ (a : Option (List ℕ)). Appends a (g.W.Write.contents c.write_made-written.new.output) c.in-Ok-begin.begun.1.text.items) c.in-Ok.ensures.unwritten (c.write_made-written.ensures.whole (inl wrote))),
-    )
+    let both : (c.write_made-written.result ≡ DONE) × (c.in-Ok.listing.left ≡ DONE) = search (rules, c.or_left.ensures, done) in
+    let kept = c.in-Ok.ensures.kept both.1 in
+    let begun = c.in-Ok-begin_at.ensures.begun in
+    let writer = g.W.Write.contents c.write_made-written.new.output in
+    let text = c.in-Ok-begin_at.begun.2.text.items in
+    let wrote = subst (λ (a : Option (List ℕ)). Appends a writer text) (c.in-Ok-begin_at.ensures.unwritten ∙ c.in-Ok.ensures.unwritten) (c.write_made-written.ensures.whole (inl both.0)) in
+    let is = begun.3 ∙ ap (λ found. changes_text c.in-Ok.listing.fence found begun.0) kept.2 in
+    (kept.0, kept.1, c.in-Ok.listing.fence, c.in-Ok.ensures.fence, begun.0, begun.1, subst (Appends (g.W.Write.contents c.args.output.now) writer) is wrote)
 
 pub returns-then-following-clause-at_most : goal.returns-then-following-clause-at_most
 returns-then-following-clause-at_most g c =
+    let made = c.in-Ok.ensures.made in
+    let begun = c.in-Ok-begin_at.ensures.begun in
+    let fence = c.in-Ok.listing.fence in
+    let before = g.W.Write.contents c.args.output.now in
+    let writer = g.W.Write.contents c.write_made-written.new.output in
+    let text = c.in-Ok-begin_at.begun.2.text.items in
+    let wrote = subst (λ (a : Option (List ℕ)). Written false a writer text) (c.in-Ok-begin_at.ensures.unwritten ∙ c.in-Ok.ensures.unwritten) c.write_made-written.ensures.part in
     inr (
-      c.in-Ok.read.0,
-      c.in-Ok.ensures.made,
-      c.in-Ok-fence_beside.fence,
-      c.in-Ok-fence_beside.ensures,
-      c.in-Ok-open_feed.opened.1,
-      c.in-Ok-open_feed.ensures,
+      made.0,
+      made.1,
+      fence,
+      c.in-Ok.ensures.fence,
+      begun.0,
+      begun.1,
       [],
       tt,
-      first_lines c.in-Ok-fence_beside.fence c.in-Ok.read.0.version c.in-Ok-open_feed.opened.1 (g.W.Write.contents c.args.output.now) (g.W.Write.contents c.write_made-written.new.output)
-          c.in-Ok-begin.begun.1.text.items c.in-Ok-begin.ensures.text
-          (subst (λ (a : Option (List ℕ)). Written false a (g.W.Write.contents c.write_made-written.new.output) c.in-Ok-begin.begun.1.text.items) c.in-Ok.ensures.unwritten c.write_made-written.ensures.part),
+      subst (λ found. Written false before writer (follow_text fence found begun.0 [])) made.2 (first_lines fence c.in-Ok.listing.found begun.0 before writer text begun.3 wrote),
     )
 
 pub returns-clause-at_most : goal.returns-clause-at_most
 returns-clause-at_most g c =
+    let made = c.in-Ok.ensures.made in
+    let begun = c.in-Ok-begin_at.ensures.begun in
+    let fence = c.in-Ok.listing.fence in
+    let before = g.W.Write.contents c.args.output.now in
+    let middle = g.W.Write.contents c.write_made-written.new.output in
+    let writer = g.W.Write.contents c.follow_on.new.output in
+    let text = c.in-Ok-begin_at.begun.2.text.items in
     let all : (c.write_made-written.result ≡ DONE) ⊎ (c.write_made-written.result ≡ REFUSED) = search (rules, c.write_made-written.ensures.status, c.if-written-eq-FAULT.false) in
-    let rest =
-    lines_after c.in-Ok-fence_beside.fence c.in-Ok.read.0.version c.in-Ok-open_feed.opened.1 c.in-Ok-begin.begun.0 c.follow-end.new.mirror _
-    (g.W.Write.contents c.args.output.now) (g.W.Write.contents c.write_made-written.new.output) (g.W.Write.contents c.follow-end.new.output)
-    c.in-Ok-begin.begun.1.text.items c.in-Ok-begin.ensures.text c.in-Ok-begin.ensures.mirror
-    (subst (λ (a : Option (List ℕ)). Written true a (g.W.Write.contents c.write_made-written.new.output) c.in-Ok-begin.begun.1.text.items) c.in-Ok.ensures.unwritten (c.write_made-written.ensures.whole all))
-    c.follow-end.ensures
-    in
-    inr (c.in-Ok.read.0, c.in-Ok.ensures.made, c.in-Ok-fence_beside.fence, c.in-Ok-fence_beside.ensures, c.in-Ok-open_feed.opened.1, c.in-Ok-open_feed.ensures, rest.0, rest.1, rest.2)
+    let wrote = subst (λ (a : Option (List ℕ)). Written true a middle text) (c.in-Ok-begin_at.ensures.unwritten ∙ c.in-Ok.ensures.unwritten) (c.write_made-written.ensures.whole all) in
+    let follows = c.follow_on.ensures.follows in
+    let rest = lines_after fence c.in-Ok.listing.found begun.0 c.in-Ok-begin_at.begun.1 follows.0 follows.1 before middle writer text begun.3 begun.2 wrote follows.2 in
+    inr (
+      made.0,
+      made.1,
+      fence,
+      c.in-Ok.ensures.fence,
+      begun.0,
+      begun.1,
+      rest.0,
+      rest.1,
+      subst (λ found. Written false before writer (follow_text fence found begun.0 rest.0)) made.2 rest.2,
+    )

@@ -14,7 +14,7 @@ returns-in-Ok-shared-clause-read g c =
       last = c.end.result;
       is_opened = opened.found;
       made = (stored, subst (λ (last : Held _). HasOpened g.S.Store opened.was last stored) (sym c.end.ensures.tables) opened.opened, c.in-Ok-shared.ensures ∙ c.version.ensures);
-      is_closed = c.close.ensures;
+      is_closed = c.close_at.ensures;
     }
 
 pub returns-in-Err-shared-clause-unread : goal.returns-in-Err-shared-clause-unread
@@ -27,5 +27,5 @@ returns-in-Err-shared-clause-unread g c =
       last = c.end.result;
       is_opened = opened.found;
       made = (stored, subst (λ (last : Held _). HasOpened g.S.Store opened.was last stored) (sym c.end.ensures.tables) opened.opened, tt);
-      is_closed = c.close.ensures;
+      is_closed = c.close_at.ensures;
     })

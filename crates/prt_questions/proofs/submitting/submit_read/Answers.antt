@@ -2,7 +2,7 @@ use Rattle.std.proofs.Common.{[], inl, inr, refl, subst, sym}
 use Rattle.std.specs.Io.KnownBytes.{Appends}
 use Rattle.prt_questions.proofs.Submitted.{all_made, submitted_is, was_sent}
 use Rattle.prt_questions.specs.Sources.{Sources, path_of, sources_of}
-use Rattle.prt_questions.proofs.submitting.submit_script.Goals as goal
+use Rattle.prt_questions.proofs.submitting.submit_read.Goals as goal
 
 pub returns-in-Ok-submit-clause-run : goal.returns-in-Ok-submit-clause-run
 returns-in-Ok-submit-clause-run g c =

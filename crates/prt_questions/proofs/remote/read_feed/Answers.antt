@@ -1,0 +1,9 @@
+use Rattle.std.specs.Io.Buffered.{reader_remaining}
+use Rattle.prt_questions.proofs.Told.{opening_of}
+use Rattle.prt_questions.proofs.remote.read_feed.Goals as goal
+
+pub returns : goal.returns
+returns g c =
+    let known = reader_remaining g.T.Read.remaining in
+    let told = c.in_ok-version.ensures in
+    (told.0, told.1, opening_of (known c.args.reader.now) (known c.is_feed.new.reader) told.0 told.1 c.is_feed.ensures told.2, told.3)
