@@ -13,7 +13,7 @@ ghost use Rattle.prt_words.specs.declared.asking.Source.TheVariants.{Server};
 
 use crate::databases::DatabaseFiles;
 use crate::inquiry::{Inquiry, called, said};
-use crate::left::{tell_left, tell_left_out};
+use crate::left::{or_left, tell_left, tell_left_out};
 use crate::local::LocalNet;
 use crate::machine::{Machine, Wanted};
 use crate::opening::{close_at, open_desk, report_unopened};
@@ -290,11 +290,10 @@ fn ask_script<F: ReadFiles, R: Read, W: Write, E: Write>(
     let place = file.unwrap_or(STANDARD_INPUT);
     let answered = said(alloc, &made.version, inquiry);
     let written = write_answer(alloc, &place, answered, output, errors);
-    if written != DONE {
-        return written;
+    if written == DONE {
+        tell_left_out(alloc, place, &script, &inquiry.question, errors);
     }
-    tell_left_out(alloc, place, &script, &inquiry.question, errors);
-    left
+    or_left(written, left)
 }
 
 /// Asks the tables at a source, and returns the exit status.

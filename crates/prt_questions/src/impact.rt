@@ -10,7 +10,7 @@ ghost use Rattle.prt_questions.specs.Sources.{Gives, IsFileOf, IsRead, after, pa
 
 use crate::asking::{REFUSED, write_text};
 use crate::databases::DatabaseFiles;
-use crate::left::tell_left;
+use crate::left::{or_left, tell_left};
 use crate::local::LocalNet;
 use crate::machine::Machine;
 use crate::reading::{read_whole, report_no_memory};
@@ -139,10 +139,7 @@ fn rehearse_over<F: ReadFiles, R: Read, W: Write, E: Write>(
     }
     let before = &tables.version;
     let shown = write_impact(alloc, before, &made.version, rehearsing, output, errors);
-    if shown != DONE {
-        return shown;
-    }
-    if left == DONE { tables.left } else { REFUSED }
+    or_left(shown, or_left(left, tables.left))
 }
 
 /// Writes which packets get another answer once a script was executed over the tables at a source. Returns the exit status.

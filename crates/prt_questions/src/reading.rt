@@ -112,6 +112,24 @@ pub(crate) fn report_no_memory<W: Write, E: Write>(output: &mut W, errors: &mut 
     report(&Fault::Opening(Refusal::NoMemory), output, errors)
 }
 
+/// Adds the names in a file of a folder, if its name ends with `.conf` and it can be read.
+fn add_names_of<F: ReadFiles>(
+    files: &F,
+    alloc: Global,
+    folder: &str,
+    file: &str,
+    names: &mut Names,
+) -> Result<(), AllocError> {
+    if !file.ends_with(".conf") {
+        return Ok(());
+    }
+    let path = format!(in alloc; "{folder}{file}")?;
+    match read_file(files, alloc, path.as_str()) {
+        Ok(text) => names.read(&text),
+        Err(_) => Ok(()),
+    }
+}
+
 /// Adds the names in the files of a folder whose names end with `.conf`. A folder that can't be read has none.
 fn add_names_in<F: ReadFiles>(
     files: &F,
@@ -123,15 +141,10 @@ fn add_names_in<F: ReadFiles>(
         return Ok(());
     };
     for entry in entries.split(|byte| *byte == 0) {
-        let Ok(name) = str::from_utf8(entry) else {
+        let Ok(file) = str::from_utf8(entry) else {
             return Ok(());
         };
-        if name.ends_with(".conf") {
-            let path = format!(in alloc; "{folder}{name}")?;
-            if let Ok(text) = read_file(files, alloc, path.as_str()) {
-                names.read(&text)?;
-            }
-        }
+        add_names_of(files, alloc, folder, file, names)?;
     }
     Ok(())
 }

@@ -86,6 +86,23 @@ impl<'a> Figure<'a> {
         }
         Ok(())
     }
+
+    /// Appends it in a form. The object of JSON begins before the first one.
+    fn push_as(
+        &self,
+        out: &mut Vec<u8>,
+        form: StatusForm,
+        is_first: bool,
+    ) -> Result<(), AllocError> {
+        match form {
+            StatusForm::Lines => self.push_line(out),
+            StatusForm::Metrics => self.push_metric(out),
+            StatusForm::Json => {
+                out.push(if is_first { b'{' } else { b',' })?;
+                self.push_json(out)
+            }
+        }
+    }
 }
 
 /// Appends a sample of a metric.
@@ -110,6 +127,20 @@ fn push_string(out: &mut Vec<u8>, text: &[u8]) -> Result<(), AllocError> {
     out.extend_from_slice(b"\"")
 }
 
+/// Reads all of what a server says of itself at the socket for that in its folder.
+///
+/// # Errors
+///
+/// `NoAnswer` if it isn't whole. Otherwise what befell the connection.
+fn read_whole_status<N: LocalNet>(rt: &N, alloc: Global, folder: &str) -> Result<Vec<u8>, NotTold> {
+    let said = read_status(rt, alloc, folder)?;
+    if is_whole(&said) {
+        Ok(said)
+    } else {
+        Err(NotTold::NoAnswer)
+    }
+}
+
 /// Formats what a server said of itself.
 fn status_text(alloc: Global, said: &[u8], form: StatusForm) -> Result<Vec<u8>, AllocError> {
     let mut out = Vec::new(alloc);
@@ -118,14 +149,7 @@ fn status_text(alloc: Global, said: &[u8], form: StatusForm) -> Result<Vec<u8>, 
         let Some(figure) = figure_of(line) else {
             continue;
         };
-        match form {
-            StatusForm::Lines => figure.push_line(&mut out)?,
-            StatusForm::Metrics => figure.push_metric(&mut out)?,
-            StatusForm::Json => {
-                out.push(if is_first { b'{' } else { b',' })?;
-                figure.push_json(&mut out)?;
-            }
-        }
+        figure.push_as(&mut out, form, is_first)?;
         is_first = false;
     }
     if matches!(form, StatusForm::Json) {
@@ -163,12 +187,8 @@ pub(crate) fn show_status<N: LocalNet, W: Write, E: Write>(
     ensures { (result ≡ DONE) ⊎ ((result ≡ CLOSED) ⊎ (result ≡ FAULT)) }
 {
     let folder = inspecting.folder;
-    let said = match read_status(rt, alloc, folder) {
-        Ok(said) if is_whole(&said) => said,
-        Ok(_) => {
-            tell(cause_message(alloc, &folder, &NotTold::NoAnswer), errors);
-            return FAULT;
-        }
+    let said = match read_whole_status(rt, alloc, folder) {
+        Ok(said) => said,
         Err(reason) => {
             tell(cause_message(alloc, &folder, &reason), errors);
             return FAULT;

@@ -1,26 +1,19 @@
-use Rattle.std.proofs.Common.{inr, subst}
+use Rattle.std.proofs.Common.{rules, ◌≡◌, inr, subst}
 use Rattle.prt_import.specs.Accepted.{IsExecuted}
+use Rattle.prt_words.specs.declared.fault.TheConstants.{DONE}
 use Rattle.prt_questions.specs.Asking.{AreKernels, said}
 use Rattle.prt_questions.proofs.asking.ask_script.Goals as goal
 
 pub returns-clause-whole : goal.returns-clause-whole
-returns-clause-whole g c = λ done. (
-  c.in-Ok-run_over_new.made,
-  c.in-Ok.script.items,
-  c.in-Ok.ensures.read,
-  subst (IsExecuted c.in-Ok-run_over_new.made) c.deref.ensures.value c.in-Ok-run_over_new.ensures.made,
-  subst AreKernels c.deref-2.ensures.value (c.tell_left-left.ensures.kernels done),
-  rw (← c.in-Ok.ensures.unwritten, ← c.in-Ok-run_over_new.ensures.unwritten) (c.write_answer-written.ensures.whole (said c.args.inquiry.now c.in-Ok-run_over_new.made.version) c.said-answered.ensures c.if-written-ne-DONE.false),
-)
-
-pub returns-then-written-ne-DONE-clause-part : goal.returns-then-written-ne-DONE-clause-part
-returns-then-written-ne-DONE-clause-part g c = inr (
-  c.in-Ok-run_over_new.made,
-  c.in-Ok.script.items,
-  c.in-Ok.ensures.read,
-  subst (IsExecuted c.in-Ok-run_over_new.made) c.deref.ensures.value c.in-Ok-run_over_new.ensures.made,
-  rw (← c.in-Ok.ensures.unwritten, ← c.in-Ok-run_over_new.ensures.unwritten) (c.write_answer-written.ensures.part (said c.args.inquiry.now c.in-Ok-run_over_new.made.version) c.said-answered.ensures),
-)
+returns-clause-whole g c = λ done.
+    let both : (c.write_answer-written.result ≡ DONE) × (c.tell_left-left.result ≡ DONE) = search (rules, c.or_left.ensures, done) in (
+      c.in-Ok-run_over_new.made,
+      c.in-Ok.script.items,
+      c.in-Ok.ensures.read,
+      subst (IsExecuted c.in-Ok-run_over_new.made) c.deref.ensures.value c.in-Ok-run_over_new.ensures.made,
+      subst AreKernels c.deref-2.ensures.value (c.tell_left-left.ensures.kernels both.1),
+      rw (← c.in-Ok.ensures.unwritten, ← c.in-Ok-run_over_new.ensures.unwritten) (c.write_answer-written.ensures.whole (said c.args.inquiry.now c.in-Ok-run_over_new.made.version) c.said-answered.ensures both.0),
+    )
 
 pub returns-clause-part : goal.returns-clause-part
 returns-clause-part g c = inr (
