@@ -1,17 +1,22 @@
 -- What is read of the input once something else was.
-use Rattle.std.proofs.Common.{◌≡◌, ◌⊎◌, IfSome, inl, inr, ℕ, List, Option, Some, None, subst}
+use Rattle.std.proofs.Common.{◌≡◌, ◌⊎◌, IfSome, inl, inr, ℕ, List, [], Option, Some, None, subst}
 use Rattle.std.specs.Prelude.{option_map}
+use Rattle.std.specs.Io.KnownBytes.{Appends}
 use Rattle.sqlite.specs.Held.{Held}
 use Rattle.sqlite.specs.Store.{Ghosts}
 use Rattle.prt_addr.specs.Word.{Word}
+use Rattle.prt_diff.specs.Text.{changes_text}
+use Rattle.prt_diff.specs.declared.fence.Fence.{Fence}
 use Rattle.prt_partition.specs.declared.sameness.Sameness.{Sameness}
 use Rattle.prt_version.specs.State.{State}
 use Rattle.prt_words.specs.declared.analysis.Asserting.{Asserting}
 use Rattle.prt_words.specs.declared.analysis.Rehearsing.{Rehearsing}
+use Rattle.prt_words.specs.declared.asking.Shown.{Shown}
+use Rattle.prt_words.specs.declared.asking.Shown.TheVariants.{Impact, Lines, Status}
 use Rattle.prt_words.specs.declared.asking.Source.{Source}
 use Rattle.prt_words.specs.declared.asking.Source.TheVariants.{Database, Server, Script}
 use Rattle.prt_questions.specs.Analyses.{IsAsserted, IsAssertedAtMost, IsNotRead, IsRehearsed, IsRehearsedAtMost, IsStopped, Rehearsed, sameness_of}
-use Rattle.prt_questions.specs.Asking.{IsAnswered, IsAnsweredAtMost, IsAskedOf, IsCutOff}
+use Rattle.prt_questions.specs.Asking.{IsAnswered, IsAnsweredAtMost, IsAskedOf, IsCutOff, IsShown, IsShownAtMost, IsWithImpact}
 use Rattle.prt_questions.specs.Sources.{HasLeft, IsRead, Sources, after, path_of}
 use Rattle.prt_questions.specs.declared.machine.Wanted.{Wanted}
 
@@ -72,3 +77,14 @@ module _ {M S : Type 0} (g : Ghosts S) (opens : Wanted → M → M → List ℕ 
     pub answered_at_most_later : (source : Source) (says : State → List ℕ) → IsAnsweredAtMost g opens refuses closes (record from { input = input }) old new writer0 writer source says → IsAnsweredAtMost g opens refuses closes (after rest from) old new writer0 writer source says
     answered_at_most_later source says (inl not_asked) = inl not_asked
     answered_at_most_later source says (inr asked) = inr (asked_later source (λ state. IsCutOff (says state) writer0 writer) asked)
+
+    -- and what was shown of a difference
+    pub shown_later : (shown : Shown) (fence : Fence) (found : State) (source : Source) → IsShown g opens refuses closes (record from { input = input }) old new writer0 writer fence found shown source → IsShown g opens refuses closes (after rest from) old new writer0 writer fence found shown source
+    shown_later Lines fence found source is = answered_later source (changes_text fence found) is
+    shown_later Impact fence found source is = asked_later source (λ state. (text : List ℕ) × IsWithImpact fence found state text × Appends writer0 writer text) is
+    shown_later Status fence found source is = (is.0, asked_later source (λ state. changes_text fence found state ≡ []) is.1)
+
+    pub shown_at_most_later : (shown : Shown) (fence : Fence) (found : State) (source : Source) → IsShownAtMost g opens refuses closes (record from { input = input }) old new writer0 writer fence found shown source → IsShownAtMost g opens refuses closes (after rest from) old new writer0 writer fence found shown source
+    shown_at_most_later Lines fence found source is = answered_at_most_later source (changes_text fence found) is
+    shown_at_most_later Impact fence found source is = compared_later source (λ state. (text : List ℕ) × IsWithImpact fence found state text × IsCutOff text writer0 writer) is
+    shown_at_most_later Status fence found source is = (is.0, asked_or_not_later source is.1)

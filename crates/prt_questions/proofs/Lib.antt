@@ -8,3 +8,4 @@ mod Applied
 mod Later
 mod Submitted
 mod Told
+mod Statuses

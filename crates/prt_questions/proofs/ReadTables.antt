@@ -6,14 +6,17 @@ use Rattle.prt_diff.specs.declared.fence.Fence.{Fence}
 use Rattle.prt_import.specs.Accepted.{IsExecuted}
 use Rattle.prt_import.specs.declared.accepted.Accepted.{Accepted}
 use Rattle.prt_version.specs.State.{State}
+use Rattle.prt_addr.specs.Word.{Word}
+use Rattle.prt_words.specs.declared.asking.Shown.{Shown}
+use Rattle.prt_words.specs.declared.asking.Shown.TheVariants.{Impact, Lines, Status}
 use Rattle.prt_words.specs.declared.asking.Source.{Source}
 use Rattle.prt_words.specs.declared.reach.Reach.{Reach}
 use Rattle.prt_words.specs.declared.server_place.ServerPlace.{ServerPlace}
 use Rattle.prt_words.specs.declared.asking.Source.TheVariants.{Script, Server}
 use Rattle.prt_questions.specs.Analyses.{HaveTables, IsNotRead}
-use Rattle.prt_questions.specs.Asking.{IsAskedOf, IsListing}
+use Rattle.prt_questions.specs.Asking.{HasCompared, HasComparedAtMost, IsAskedOf, IsListing, IsShown, IsShownAtMost, IsWholeListing}
 use Rattle.prt_questions.specs.Fencing.{IsFenceOf}
-use Rattle.prt_questions.specs.Sources.{Gives, Sources, path_of}
+use Rattle.prt_questions.specs.Sources.{Gives, Sources, after, path_of, rest_after}
 use Rattle.prt_questions.specs.declared.machine.Wanted.{Wanted}
 use Rattle.prt_questions.specs.declared.tables.Tables.{Tables}
 use Rattle.prt_questions.proofs.Asked.{asked_more}
@@ -46,8 +49,25 @@ module _ {M S : Type 0} (g : Ghosts S) (opens : Wanted → M → M → List ℕ 
   of_tables_at_most source tables Unwritten P read (inl same) = inl (same, read_in_vain source tables read)
   of_tables_at_most source tables Unwritten P read (inr holds) = inr (of_tables source tables P read holds)
 
--- a listing, and what was written of it or not
-pub compared_at_most : {U : Type 0} {reads : List ℕ → Type 0} {reach : Reach} (accepted : Accepted) → IsListing reads accepted → (fence : Fence) → IsFenceOf reach fence → {B : Accepted → Fence → Type 0} → U ⊎ B accepted fence
-    → U ⊎ ((accepted : Accepted) × IsListing reads accepted × (fence : Fence) × IsFenceOf reach fence × B accepted fence)
-compared_at_most accepted listing fence is (inl same) = inl same
-compared_at_most accepted listing fence is (inr asked) = inr (accepted, listing, fence, is, asked)
+-- What was shown of a difference from a listing.
+module _ {M S : Type 0} (g : Ghosts S) (opens : Wanted → M → M → List ℕ → Held S → Type 0) (refuses : Wanted → M → M → List ℕ → Type 0) (closes : M → M → Held S → Type 0) (from : Sources) (old new : M) (writer0 writer : Option (List ℕ)) (file : Option Word) (reach : Reach) (source : Source) where
+  compared_of : (shown : Shown) (fence : Fence) (accepted : Accepted) → IsWholeListing (Gives from file) accepted → IsFenceOf reach fence
+      → IsShown g opens refuses closes (after (rest_after file) from) old new writer0 writer fence accepted.version shown source → HasCompared g opens refuses closes from old new writer0 writer file reach shown source
+  compared_of Lines fence accepted listing is shows = (accepted, listing, fence, is, shows)
+  compared_of Impact fence accepted listing is shows = (accepted, listing, fence, is, shows)
+  compared_of Status fence accepted listing is shows = (accepted, listing, fence, is, shows.0, shows.1)
+
+  pub compared : (shown : Shown) (fence : Fence) (found : State) → ((accepted : Accepted) × IsWholeListing (Gives from file) accepted × (found ≡ accepted.version)) → IsFenceOf reach fence
+      → IsShown g opens refuses closes (after (rest_after file) from) old new writer0 writer fence found shown source → HasCompared g opens refuses closes from old new writer0 writer file reach shown source
+  compared shown fence found listing is shows = compared_of shown fence listing.0 listing.1 is (subst (λ state. IsShown g opens refuses closes (after (rest_after file) from) old new writer0 writer fence state shown source) listing.2 shows)
+
+  compared_at_most_of : (shown : Shown) (fence : Fence) (accepted : Accepted) → IsListing (Gives from file) accepted → IsFenceOf reach fence
+      → IsShownAtMost g opens refuses closes (after (rest_after file) from) old new writer0 writer fence accepted.version shown source → HasComparedAtMost g opens refuses closes from old new writer0 writer file reach shown source
+  compared_at_most_of Lines fence accepted listing is shows = inr (accepted, listing, fence, is, shows)
+  compared_at_most_of Impact fence accepted listing is (inl same) = inl same
+  compared_at_most_of Impact fence accepted listing is (inr asked) = inr (accepted, listing, fence, is, asked)
+  compared_at_most_of Status fence accepted listing is shows = shows
+
+  pub compared_at_most : (shown : Shown) (fence : Fence) (found : State) → ((accepted : Accepted) × IsListing (Gives from file) accepted × (found ≡ accepted.version)) → IsFenceOf reach fence
+      → IsShownAtMost g opens refuses closes (after (rest_after file) from) old new writer0 writer fence found shown source → HasComparedAtMost g opens refuses closes from old new writer0 writer file reach shown source
+  compared_at_most shown fence found listing is shows = compared_at_most_of shown fence listing.0 listing.1 is (subst (λ state. IsShownAtMost g opens refuses closes (after (rest_after file) from) old new writer0 writer fence state shown source) listing.2 shows)

@@ -227,6 +227,25 @@ module _ {M S : Type 0} (g : Ghosts S) (opens : Wanted → M → M → List ℕ 
       × (names : TableNames) × (IsAnsweredAtMost asking.source (λ state. called asking.labels asking.form names (answer asked state))
       ⊎ IsRepliedAtMost asking.source asking.line.items (called asking.labels asking.form names)))
 
+module _ {M S : Type 0} (g : Ghosts S) (opens : Wanted → M → M → List ℕ → Held S → Type 0) (refuses : Wanted → M → M → List ℕ → Type 0) (closes : M → M → Held S → Type 0) (from : Sources) (old new : M) (writer0 writer : Option (List ℕ)) where
+  -- what differs from a state that was found was written, or nothing differs
+  abbrev pub IsShown : Fence → (found : State) → Shown → Source → Type 0
+  IsShown fence found Lines source = IsAnswered g opens refuses closes from old new writer0 writer source (changes_text fence found)
+  IsShown fence found Impact source = IsAskedOf g opens refuses closes from old new source (λ state. (text : List ℕ) × IsWithImpact fence found state text × Appends writer0 writer text)
+  IsShown fence found Status source = (writer ≡ writer0) × IsAskedOf g opens refuses closes from old new source (λ state. changes_text fence found state ≡ [])
+
+  -- tables were asked, or not
+  abbrev pub IsAskedOrNot : Source → Type 0
+  IsAskedOrNot source = IsNotAsked g opens refuses closes old new source ⊎ IsAskedOf g opens refuses closes from old new source (λ state. Unit {0})
+
+  -- in any case: a part of it at most was written
+  abbrev pub IsShownAtMost : Fence → (found : State) → Shown → Source → Type 0
+  IsShownAtMost fence found Lines source = IsAnsweredAtMost g opens refuses closes from old new writer0 writer source (changes_text fence found)
+  IsShownAtMost fence found Impact source =
+      (writer ≡ writer0) × IsAskedOrNot source
+      ⊎ IsAskedOf g opens refuses closes from old new source (λ state. (text : List ℕ) × IsWithImpact fence found state text × IsCutOff text writer0 writer)
+  IsShownAtMost fence found Status source = (writer ≡ writer0) × IsAskedOrNot source
+
 -- A listing is read first, and then the tables at a source: of the input what is left.
 module _ {M S : Type 0} (g : Ghosts S) (opens : Wanted → M → M → List ℕ → Held S → Type 0) (refuses : Wanted → M → M → List ℕ → Type 0) (closes : M → M → Held S → Type 0) (from : Sources) (old new : M) (writer0 writer : Option (List ℕ)) where
   -- what differs from the state of a listing was written, or nothing differs

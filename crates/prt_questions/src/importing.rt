@@ -1,6 +1,6 @@
 //! What `ip` prints, as a script, and what differs from it.
 ghost use Rattle.std.specs.Prelude.{◌≡◌, ◌⊎◌, IfErr, IfOk, OnOk, []};
-ghost use Rattle.prt_questions.specs.Asking.{AreKept, AreLinesOf, HasCompared, HasComparedAtMost, IsAskedOf, IsListing, IsMadeOf, IsNotAsked, IsWholeListing, said};
+ghost use Rattle.prt_questions.specs.Asking.{AreKept, AreLinesOf, HasCompared, HasComparedAtMost, IsAskedOf, IsListing, IsMadeOf, IsNotAsked, IsShown, IsShownAtMost, IsWholeListing, said};
 ghost use Rattle.prt_questions.specs.Fencing.{IsFenceOf};
 ghost use Rattle.prt_questions.specs.Sources.{HasLeft, IsFileOf, IsRead, path_of, rest_after, sources_of};
 ghost use Rattle.prt_questions.specs.Importing.{HasImported, HasImportedAtMost, IsImported, IsImportedAtMost};
@@ -271,6 +271,45 @@ fn compare<
     }
 }
 
+/// Shows how what was found differs from the tables at a source: the lines, or before them which packets they send another way,
+/// or whether anything differs at all. It returns the exit status.
+fn show_difference<
+    S: Alter + Drop,
+    M: Machine<Connection<S>> + Drop,
+    F: ReadFiles,
+    N: LocalNet + Wait + Copy + Drop,
+    R: Read,
+    W: Write,
+    E: Write,
+>(
+    databases: &mut DatabaseFiles<'_, S, M, F, N>,
+    alloc: Global,
+    diffing: &Diffing<'_>,
+    comparison: &Comparison<'_>,
+    input: &mut R,
+    output: &mut W,
+    errors: &mut E,
+) -> u8
+    ensures status { (result ≡ DONE) ⊎ ((result ≡ REFUSED) ⊎ (result ≡ FAULT)) }
+    ensures whole { result ≡ DONE → IsShown S.Store M.opens M.refuses M.closes (sources_of F.opens F.Opened.remaining databases.old.files.now N.reaches N.Stream.remaining databases.old.rt (R.remaining input.old)) databases.old.machine databases.new.machine (W.contents output.old) (W.contents output.new) comparison.now.fence.now comparison.now.found.now diffing.now.shown diffing.now.source }
+    ensures at_most { IsShownAtMost S.Store M.opens M.refuses M.closes (sources_of F.opens F.Opened.remaining databases.old.files.now N.reaches N.Stream.remaining databases.old.rt (R.remaining input.old)) databases.old.machine databases.new.machine (W.contents output.old) (W.contents output.new) comparison.now.fence.now comparison.now.found.now diffing.now.shown diffing.now.source }
+{
+    let inquiry = Inquiry {
+        question: Question::Diff(*comparison),
+        form: Form::Lines,
+        labels: Labels::Numbers,
+        names: &Names::new(alloc),
+    };
+    let source = &diffing.source;
+    match diffing.shown {
+        Shown::Lines => ask_source(databases, alloc, source, &inquiry, input, output, errors),
+        Shown::Impact => {
+            diff_with_impact(databases, alloc, source, comparison, input, output, errors)
+        }
+        Shown::Status => compare(databases, alloc, source, &inquiry, input, errors),
+    }
+}
+
 /// Prints the lines that bring what `ip` printed to the tables at a source, within a fence, and returns the exit status.
 /// Before them it may say which packets they send another way, as comments. Or it shows only whether anything differs.
 ///
@@ -306,19 +345,14 @@ pub(crate) fn diff<
         fence: &listing.fence,
         found: &listing.found,
     };
-    let inquiry = Inquiry {
-        question: Question::Diff(comparison),
-        form: Form::Lines,
-        labels: Labels::Numbers,
-        names: &Names::new(alloc),
-    };
-    let source = &diffing.source;
-    let asked = match diffing.shown {
-        Shown::Lines => ask_source(databases, alloc, source, &inquiry, input, output, errors),
-        Shown::Impact => {
-            diff_with_impact(databases, alloc, source, &comparison, input, output, errors)
-        }
-        Shown::Status => compare(databases, alloc, source, &inquiry, input, errors),
-    };
-    or_left(asked, listing.left)
+    let shown = show_difference(
+        databases,
+        alloc,
+        diffing,
+        &comparison,
+        input,
+        output,
+        errors,
+    );
+    or_left(shown, listing.left)
 }

@@ -2,11 +2,12 @@ use Rattle.std.proofs.Common.{rules, ◌≡◌, inr, subst}
 use Rattle.prt_import.specs.Accepted.{IsExecuted}
 use Rattle.prt_words.specs.declared.fault.TheConstants.{DONE}
 use Rattle.prt_questions.specs.Asking.{AreKernels, said}
+use Rattle.prt_questions.proofs.Statuses.{both_done}
 use Rattle.prt_questions.proofs.asking.ask_script.Goals as goal
 
 pub returns-clause-whole : goal.returns-clause-whole
 returns-clause-whole g c = λ done.
-    let both : (c.write_answer-written.result ≡ DONE) × (c.tell_left-left.result ≡ DONE) = search (rules, c.or_left.ensures, done) in (
+    let both = both_done _ _ _ c.or_left.ensures done in (
       c.in-Ok-run_over_new.made,
       c.in-Ok.script.items,
       c.in-Ok.ensures.read,

@@ -6,11 +6,12 @@ use Rattle.prt_words.specs.declared.fault.TheConstants.{DONE}
 use Rattle.prt_questions.specs.Asking.{follow_text}
 use Rattle.prt_questions.specs.declared.asking.TheConstants.{REFUSED}
 use Rattle.prt_questions.proofs.Followed.{first_lines, lines_after}
+use Rattle.prt_questions.proofs.Statuses.{both_done}
 use Rattle.prt_questions.proofs.following.follow_server.Goals as goal
 
 pub returns-then-following-clause-whole : goal.returns-then-following-clause-whole
 returns-then-following-clause-whole g c = λ done.
-    let both : (c.write_made-written.result ≡ DONE) × (c.in-Ok.listing.left ≡ DONE) = search (rules, c.or_left.ensures, done) in
+    let both = both_done _ _ _ c.or_left.ensures done in
     let kept = c.in-Ok.ensures.kept both.1 in
     let begun = c.in-Ok-begin_at.ensures.begun in
     let writer = g.W.Write.contents c.write_made-written.new.output in
