@@ -10,7 +10,7 @@ use crate::databases::DatabaseFiles;
 use crate::impact::report_undivided;
 use crate::local::LocalNet;
 use crate::machine::Machine;
-use crate::reading::{read_whole, report_no_memory};
+use crate::reading::{is_newline, read_whole, report_no_memory};
 use crate::tables::{Tables, tables_at};
 use crate::telling::tell;
 use prt_claims::{
@@ -55,7 +55,7 @@ fn bad_message(
 fn report_bad<E: Write>(alloc: Global, file: &str, text: &[u8], bad: &[BadLine], errors: &mut E) {
     let mut rest = bad;
     let mut number: u64 = 0;
-    for line in text.split(|byte| *byte == b'\n') {
+    for line in text.split(is_newline) {
         number = number.saturating_add(1);
         let Some((first, others)) = rest.split_first() else {
             return;

@@ -67,6 +67,14 @@ fn begin_at<N: LocalNet, W: Write, E: Write>(
     }
 }
 
+/// Returns what was reported of what stays, and of what isn't brought; nothing if memory is refused.
+fn rest_of(alloc: Global, made: &Answered) -> String {
+    match made.notes.rest() {
+        Ok(rest) => rest,
+        Err(_) => String::new(alloc),
+    }
+}
+
 /// Prints the lines for each change that a feed reports, until it ends or one has no lines, and returns the exit status.
 fn follow_on<R: Read + Drop, W: Write, E: Write>(
     alloc: Global,
@@ -114,7 +122,7 @@ pub(crate) fn follow_server<F: ReadFiles, N: LocalNet, R: Read, W: Write, E: Wri
         Ok(begun) => begun,
         Err(status) => return status,
     };
-    let told = made.notes.rest().unwrap_or_else(|_| String::new(alloc));
+    let told = rest_of(alloc, &made);
     let written = write_made(made, output, errors);
     if following.is_once || written == FAULT {
         return or_left(written, left);

@@ -4,6 +4,7 @@ ghost use Rattle.std.specs.List.{list_all};
 ghost use Rattle.prt_questions.specs.Asking.{AreKernels, destination_of, is_kernels};
 
 use crate::asking::REFUSED;
+use crate::reading::is_newline;
 use crate::telling::tell;
 use prt_addr::Addr;
 use prt_ask::Question;
@@ -102,7 +103,7 @@ pub(crate) fn tell_left_out<E: Write>(
     let Ok(comments) = left_out(alloc, script, destination_of(question)) else {
         return;
     };
-    for comment in comments.split(|byte| *byte == b'\n') {
+    for comment in comments.split(is_newline) {
         if let Some(said) = comment.strip_prefix(COMMENT) {
             tell(comment_message(alloc, name, said.trim_ascii()), errors);
         }

@@ -1,5 +1,5 @@
 //! Files that are read whole: scripts, listings, and names of tables.
-ghost use Rattle.std.specs.Prelude.{◌≡◌, IfErr, IfOk, OnOk};
+ghost use Rattle.std.specs.Prelude.{◌≡◌, ◌==◌, IfErr, IfOk, OnOk};
 ghost use Rattle.prt_questions.specs.Sources.{HasLeft, IsFileOf, IsRead, path_of, rest_after};
 
 use crate::telling::tell;
@@ -35,6 +35,19 @@ const PROTOCOLS: Places = Places {
         "/etc/iproute2/rt_protos.d/",
     ],
 };
+
+/// Checks whether a byte ends a line.
+pub(crate) fn is_newline(byte: &u8) -> bool
+    ensures { result ≡ (byte.now == 10) }
+{
+    *byte == b'\n'
+}
+
+/// Returns the last line of a text that ends with a newline.
+pub(crate) fn last_line(text: &[u8]) -> Option<&[u8]> {
+    let lines = text.strip_suffix(b"\n")?;
+    lines.rsplit(is_newline).next()
+}
 
 /// Reads a file whole.
 fn read_file<F: ReadFiles>(files: &F, alloc: Global, path: &str) -> io::Result<Vec<u8>>

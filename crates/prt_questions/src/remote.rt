@@ -6,6 +6,7 @@ ghost use Rattle.prt_questions.specs.Sources.{AreTold};
 ghost use Rattle.prt_questions.specs.Told.{IsFeedOf, IsReached, IsToldBy, IsToldIn};
 
 use crate::local::{LocalNet, Socket};
+use crate::reading::last_line;
 use itoa::Buffer;
 use prt_feed::{NotRead, read_opening};
 use prt_program::Refusal;
@@ -32,8 +33,11 @@ const FEED: u8 = b's';
 /// A query, which a session answers at once. A feed doesn't read it.
 const QUERY: &[u8] = b"route get 127.0.0.1\n";
 
-/// What the last line of a whole reply to a query begins with: that of `route get`, and that of a listing.
-const LAST_LINES: [&[u8]; 2] = [b"answer ", b"end "];
+/// What the last line of a whole reply to `route get` begins with.
+const ANSWER: &[u8] = b"answer ";
+
+/// What the last line of a whole listing begins with.
+const END: &[u8] = b"end ";
 
 /// An atomic script without commands, for a number that no tables reach.
 const NO_NUMBER: &[u8] = b"at 18446744073709551615\n";
@@ -227,13 +231,10 @@ pub(crate) fn is_there<N: LocalNet>(
 
 /// Checks whether a reply to a query is whole.
 fn is_whole(reply: &[u8]) -> bool {
-    let Some(lines) = reply.strip_suffix(b"\n") else {
-        return false;
-    };
-    let Some(last) = lines.rsplit(|byte| *byte == b'\n').next() else {
-        return false;
-    };
-    LAST_LINES.iter().any(|opening| last.starts_with(opening))
+    match last_line(reply) {
+        Some(last) => last.starts_with(ANSWER) || last.starts_with(END),
+        None => false,
+    }
 }
 
 /// Reads the reply of a session to a query.
@@ -305,17 +306,20 @@ pub(crate) enum Made {
     Moved,
 }
 
+/// Returns what follows the line at which a reply accepts a command with this number.
+fn after_accepted<'a>(reply: &'a [u8], number: &[u8]) -> Option<&'a [u8]> {
+    let rest = reply.strip_prefix(b"ok ")?;
+    let rest = rest.strip_prefix(number)?;
+    rest.strip_prefix(b"\n")
+}
+
 /// Checks whether a reply accepts as many commands, each with the number after the one before.
 fn accepts_all(reply: &[u8], number: u64, count: usize) -> bool {
     let mut rest = reply;
     for done in 1..=count as u64 {
         let mut digits = Buffer::new();
-        let ok = digits.format(number.saturating_add(done)).as_bytes();
-        let Some(after) = rest
-            .strip_prefix(b"ok ")
-            .and_then(|rest| rest.strip_prefix(ok))
-            .and_then(|rest| rest.strip_prefix(b"\n"))
-        else {
+        let accepted = digits.format(number.saturating_add(done)).as_bytes();
+        let Some(after) = after_accepted(rest, accepted) else {
             return false;
         };
         rest = after;

@@ -3,7 +3,7 @@ ghost use Rattle.std.specs.Prelude.{◌≡◌, ◌⊎◌};
 
 use crate::asking::write_text;
 use crate::local::LocalNet;
-use crate::reading::report_no_memory;
+use crate::reading::{is_newline, last_line, report_no_memory};
 use crate::remote::{NotTold, read_status};
 use crate::telling::tell;
 use prt_program::cause_message;
@@ -27,13 +27,16 @@ struct Figure<'a> {
     value: &'a [u8],
 }
 
+/// Splits a text at the first byte that is this one.
+fn split_at(text: &[u8], byte: u8) -> Option<(&[u8], &[u8])> {
+    let place = text.iter().position(|it| *it == byte)?;
+    Some((&text[..place], &text[place + 1..]))
+}
+
 /// Splits a line at its first space.
 fn figure_of(line: &[u8]) -> Option<Figure<'_>> {
-    let space = line.iter().position(|byte| *byte == b' ')?;
-    Some(Figure {
-        name: &line[..space],
-        value: &line[space + 1..],
-    })
+    let (name, value) = split_at(line, b' ')?;
+    Some(Figure { name, value })
 }
 
 /// Checks whether a text is one digit or more, and nothing else.
@@ -44,8 +47,8 @@ fn is_digits(text: &[u8]) -> bool {
 impl<'a> Figure<'a> {
     /// Checks whether the value is a number, which may have decimals. A version with two dots is none.
     fn is_number(&self) -> bool {
-        match self.value.iter().position(|byte| *byte == b'.') {
-            Some(dot) => is_digits(&self.value[..dot]) && is_digits(&self.value[dot + 1..]),
+        match split_at(self.value, b'.') {
+            Some((whole, decimals)) => is_digits(whole) && is_digits(decimals),
             None => is_digits(self.value),
         }
     }
@@ -145,7 +148,7 @@ fn read_whole_status<N: LocalNet>(rt: &N, alloc: Global, folder: &str) -> Result
 fn status_text(alloc: Global, said: &[u8], form: StatusForm) -> Result<Vec<u8>, AllocError> {
     let mut out = Vec::new(alloc);
     let mut is_first = true;
-    for line in said.split(|byte| *byte == b'\n') {
+    for line in said.split(is_newline) {
         let Some(figure) = figure_of(line) else {
             continue;
         };
@@ -160,16 +163,17 @@ fn status_text(alloc: Global, said: &[u8], form: StatusForm) -> Result<Vec<u8>, 
 
 /// Checks whether a server said that it takes no command any more.
 fn is_closed(said: &[u8]) -> bool {
-    said.split(|byte| *byte == b'\n')
-        .any(|line| line.starts_with(CLOSED_LINE))
+    for line in said.split(is_newline) {
+        if line.starts_with(CLOSED_LINE) {
+            return true;
+        }
+    }
+    false
 }
 
 /// Checks whether all of a status came: it ends with the line of the state.
 fn is_whole(said: &[u8]) -> bool {
-    let Some(lines) = said.strip_suffix(b"\n") else {
-        return false;
-    };
-    match lines.rsplit(|byte| *byte == b'\n').next() {
+    match last_line(said) {
         Some(last) => last.starts_with(b"state "),
         None => false,
     }

@@ -12,6 +12,7 @@ ghost use Rattle.prt_session.specs.Atomic.{ReadIs, accepted_after};
 ghost use Rattle.prt_words.specs.declared.fault.Fault.TheVariants.{Opening};
 
 use crate::local::{LocalNet, Socket};
+use crate::reading::is_newline;
 use crate::remote::{NotTold, PATIENCE, expect_atomic};
 use itoa::Buffer;
 use prt_diff::commands_text;
@@ -111,7 +112,7 @@ fn exchange<N: LocalNet>(
 /// Finds the number of commands that were accepted before those of a reply, if its first line accepts one.
 fn number_before(reply: &[u8]) -> Option<u64> {
     let rest = reply.strip_prefix(b"ok ")?;
-    let digits = rest.split(|byte| *byte == b'\n').next()?;
+    let digits = rest.split(is_newline).next()?;
     number_of(digits)?.checked_sub(1)
 }
 
