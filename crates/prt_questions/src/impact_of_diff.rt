@@ -33,13 +33,27 @@ fn push_comment(out: &mut Vec<u8>, group: &Group) -> Result<(), AllocError>
 }
 
 /// Appends a comment for each group of packets.
-pub(crate) fn push_comments(out: &mut Vec<u8>, groups: &[Group]) -> Result<(), AllocError>
+fn push_comments(out: &mut Vec<u8>, groups: &[Group]) -> Result<(), AllocError>
     ensures { OnOk result (out.new.items ≡ out.old.items ++ comments_of groups.now) }
 {
     for group in groups {
         push_comment(out, group)?;
     }
     Ok(())
+}
+
+/// Puts the lines of groups before others, as comments.
+pub(crate) fn with_comments(
+    alloc: Global,
+    groups: &[Group],
+    lines: &[u8],
+) -> Result<Vec<u8>, AllocError>
+    ensures { IfOk result (λ text. text.items ≡ comments_of groups.now ++ lines.now) }
+{
+    let mut text = Vec::new(alloc);
+    push_comments(&mut text, groups)?;
+    text.extend_from_slice(lines)?;
+    Ok(text)
 }
 
 /// Makes the text of a difference: the packets that its lines send another way, as comments, and then the lines.
@@ -52,10 +66,7 @@ fn with_impact(alloc: Global, found: &Version, lines: &[u8]) -> Result<Vec<u8>, 
 {
     let made = accept_over(alloc, found, lines)?;
     let groups = impact(alloc, found, &made.version, Sameness::Outcomes)?;
-    let mut text = Vec::new(alloc);
-    push_comments(&mut text, &groups)?;
-    text.extend_from_slice(lines)?;
-    Ok(text)
+    Ok(with_comments(alloc, &groups, lines)?)
 }
 
 /// Compares what was found with tables within a fence, and writes the packets that the difference sends another way, and

@@ -6,7 +6,7 @@ ghost use Rattle.prt_questions.specs.Applying.{IsPlanText, made_text};
 ghost use Rattle.prt_version.specs.Sound.{IsSound};
 
 use crate::impact::report_undivided;
-use crate::impact_of_diff::push_comments;
+use crate::impact_of_diff::with_comments;
 use crate::reading::report_no_memory;
 use crate::telling::tell;
 use itoa::Buffer;
@@ -84,10 +84,7 @@ fn with_impact(
         Ok(groups) => groups,
         Err(reason) => return Err(NotPlanned::Undivided(reason)),
     };
-    let mut text = Vec::new(alloc);
-    push_comments(&mut text, &groups)?;
-    text.extend_from_slice(lines)?;
-    Ok(text)
+    Ok(with_comments(alloc, &groups, lines)?)
 }
 
 /// Plans the changes that make tables those that are wanted.

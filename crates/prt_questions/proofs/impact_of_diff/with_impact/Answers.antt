@@ -8,8 +8,5 @@ returns c = record {
   executed = c.in_ok-made.ensures.ok;
   groups = c.in_ok-groups.groups.items;
   are = c.in_ok-groups.ensures.value;
-  is =
-      c.in_ok-extend_from_slice.ensures.items
-      ∙ ap (λ xs. xs ++ c.args.lines.now)
-      (c.in_ok-push_comments.ensures ∙ ap (λ xs. xs ++ comments_of c.deref.result.now) c.new-text.ensures.items ∙ ap (λ groups. comments_of groups) c.deref.ensures.value);
+  is = c.in_ok-with_comments.ensures ∙ ap (λ groups. comments_of groups ++ c.args.lines.now) c.deref.ensures.value;
 }
