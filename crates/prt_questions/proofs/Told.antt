@@ -6,10 +6,8 @@ use Rattle.std.specs.Io.KnownBytes.{Consumes, Keeps, prepend_known}
 use Rattle.std.specs.declared.io.buffered.BufReader.{BufReader}
 use Rattle.prt_feed.specs.Reading.{IsOpening}
 use Rattle.prt_feed.specs.declared.opening.Opening.{Opening}
-use Rattle.prt_version.specs.State.{State}
 use Rattle.prt_words.specs.declared.server_place.ServerPlace.{ServerPlace}
-use Rattle.prt_questions.specs.Sources.{AreTold, IsReply}
-use Rattle.prt_questions.specs.Told.{IsFeedOf, IsReached, IsToldBy, IsToldIn}
+use Rattle.prt_questions.specs.Told.{IsReached, IsToldBy, IsToldIn}
 use Rattle.prt_questions.specs.declared.local.Socket.{Socket}
 use Rattle.prt_questions.specs.declared.remote.Told.{Told}
 use Rattle.prt_questions.specs.declared.remote.Told.TheVariants.{Reply, Tables}

@@ -76,8 +76,7 @@ fn keep_lines<F: ReadFiles, E: Write>(
     let _kept = tell_left(alloc, None, &imported.notes, errors);
     let left = tell_left(alloc, None, &imported.left, errors);
     let refused = tell_left(alloc, None, &accepted.left, errors);
-    let status = if left == DONE { refused } else { left };
-    Ok((accepted, status, imported.left))
+    Ok((accepted, or_left(left, refused), imported.left))
 }
 
 /// Reads what `ip` printed, of a file or of the input, as `keep_lines` does.
@@ -226,17 +225,15 @@ pub(crate) fn import_listing<
         Ok(read) => read,
         Err(status) => return status,
     };
-    match print_or_make(
+    let made = print_or_make(
         databases,
         alloc,
         importing.database,
         accepted,
         output,
         errors,
-    ) {
-        DONE => left,
-        status => status,
-    }
+    );
+    or_left(made, left)
 }
 
 /// Finds what differs at a source, prints nothing of it, and returns the exit status: 1 if anything differs.

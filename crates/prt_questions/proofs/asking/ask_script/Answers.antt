@@ -1,6 +1,5 @@
-use Rattle.std.proofs.Common.{rules, ◌≡◌, inr, subst}
+use Rattle.std.proofs.Common.{inr, subst}
 use Rattle.prt_import.specs.Accepted.{IsExecuted}
-use Rattle.prt_words.specs.declared.fault.TheConstants.{DONE}
 use Rattle.prt_questions.specs.Asking.{AreKernels, said}
 use Rattle.prt_questions.proofs.Statuses.{both_done}
 use Rattle.prt_questions.proofs.asking.ask_script.Goals as goal

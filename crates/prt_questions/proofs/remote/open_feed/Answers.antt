@@ -1,4 +1,4 @@
-use Rattle.std.proofs.Common.{◌≡◌, [], Option, List, ℕ, subst}
+use Rattle.std.proofs.Common.{[], subst}
 use Rattle.prt_feed.specs.Reading.{IsOpening}
 use Rattle.prt_questions.specs.declared.local.Socket.TheVariants.{Feed}
 use Rattle.prt_questions.proofs.Told.{fresh}
