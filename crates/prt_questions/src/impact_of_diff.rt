@@ -33,7 +33,7 @@ fn push_comment(out: &mut Vec<u8>, group: &Group) -> Result<(), AllocError>
 }
 
 /// Appends a comment for each group of packets.
-fn push_comments(out: &mut Vec<u8>, groups: &[Group]) -> Result<(), AllocError>
+pub(crate) fn push_comments(out: &mut Vec<u8>, groups: &[Group]) -> Result<(), AllocError>
     ensures { OnOk result (out.new.items ≡ out.old.items ++ comments_of groups.now) }
 {
     for group in groups {
