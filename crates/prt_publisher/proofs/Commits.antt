@@ -13,7 +13,6 @@ use Rattle.prt_command.specs.declared.request.Command.{Command}
 use Rattle.prt_store.proofs.Accepted.{are_made, are_next}
 use Rattle.prt_store.specs.Exits.{IsKnown, IsStored, MayLeave, Spells}
 use Rattle.prt_store.specs.Made.{MakesChanges}
-use Rattle.prt_store.specs.declared.store.Stamp.{Stamp}
 use Rattle.prt_store.specs.Next.{AreNext, put_all}
 use Rattle.prt_store.specs.Openings.{HasDone}
 use Rattle.prt_store.specs.Stored.{Stores}
@@ -56,10 +55,6 @@ can_commit g ours_first tables published at plan changes number after same is nu
       after = subst (λ (list : List Change). put_all published list ≡ fold published commands) (sym are) made.1;
       kept = λ known. subst (λ (x : Step). Agrees g (phase_of x) (commands_of x) published tables) is (agrees known);
     }
-
--- What is known of commands that were committed, once their step was taken out.
-pub was_committed : (published : State) (at : Step) (plan : Plan) (stamp : Stamp) (taken : Step) → taken ≡ at → taken ≡ step.Committed plan stamp → IsStep published at → IsStep published (step.Committed plan stamp)
-was_committed published at plan stamp taken same is kept = subst (IsStep published) (sym same ∙ is) kept
 
 module _ {S : Type 0} (g : Ghosts S) (old new : Held S) (published after : State) (commands : List Command) (reason : Refusal) (is_after : after ≡ fold published commands) (accepted : IsAccepted published commands) (held : Stores (state g old).now published)
     (same : IsTrue (state g new).is_open → (state g new).now ≡ (state g old).now) where

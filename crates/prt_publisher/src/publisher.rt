@@ -1,5 +1,5 @@
 //! The publisher of one database.
-ghost use Rattle.std.specs.Prelude.{◌≡◌, ◌⊎◌, ◌+◌, ◌<◌, ◌≤◌, ◌↔◌, [], ◌∷◌, All, length, IfErr, IfOk, IsErrAnd, IsTrue, OnErr, OnOk, true};
+ghost use Rattle.std.specs.Prelude.{◌≡◌, ◌⊎◌, ◌+◌, ◌<◌, ◌≤◌, ◌↔◌, [], ◌∷◌, All, length, IfErr, IfOk, IsErrAnd, IsTrue, None, OnErr, OnOk, true};
 ghost use Rattle.std.specs.Arc.{arc_value};
 ghost use Rattle.sqlite.specs.Held.{Held, state};
 ghost use Rattle.sqlite.specs.State.{HasCleanDisk, IsUnchanged, Survives};
@@ -13,7 +13,7 @@ ghost use Rattle.prt_grace.specs.Registry.{noted_by, reclaimed};
 ghost use Rattle.prt_grace.specs.declared.limits.TheConstants.{MOST_RETIRED};
 ghost use Rattle.prt_publisher.specs.Exits.{AreNotAcknowledged, AreNotChecked, AreNotPrepared, HasCommitted, HaveCommitted, IsNotAcknowledged, IsNotPrepared, Spares, Takes, TakesAll};
 ghost use Rattle.prt_publisher.specs.Standing.{IsQuiet, Stands, unnoted};
-ghost use Rattle.prt_publisher.specs.Step.{AreChecked, commands_checked};
+ghost use Rattle.prt_publisher.specs.Step.{AreChecked, commands_checked, phase_of};
 ghost use Rattle.prt_rows.specs.Format.{BeginsFormat2, SuitsFormat2};
 ghost use Rattle.prt_store.specs.Adopted.{Adopts, AdoptsPart, LeavesPart};
 ghost use Rattle.prt_store.specs.Exits.{HasState, IsKnown, IsStored, MayLeave, Opens, Spells};
@@ -52,6 +52,49 @@ enum Step {
     Published(Vec<Command>, Arc<Version>),
     /// With the commands that are stored and not published, if there are some.
     Closed(Option<Vec<Command>>),
+}
+
+/// Goes on to another step.
+fn go_on(step: &mut Step, next: Step)
+    ensures { step.new ≡ next }
+{
+    drop(mem::replace(step, next));
+}
+
+/// Takes admitted commands out of their step, which is ready then.
+fn take_admitted(step: &mut Step) -> Checked
+    requires { phase_of step.old ≡ Phase.Admitted }
+    ensures was { step.old ≡ Step.Admitted result }
+    ensures left { step.new ≡ Step.Ready }
+{
+    match mem::replace(step, Step::Ready) {
+        Step::Admitted(checked) => checked,
+        _ => unreachable!(),
+    }
+}
+
+/// Takes a prepared plan out of its step, which is closed then.
+fn take_prepared(step: &mut Step) -> Plan
+    requires { phase_of step.old ≡ Phase.Prepared }
+    ensures was { step.old ≡ Step.Prepared result }
+    ensures left { step.new ≡ Step.Closed None }
+{
+    match mem::replace(step, Step::Closed(None)) {
+        Step::Prepared(plan) => plan,
+        _ => unreachable!(),
+    }
+}
+
+/// Takes a committed plan and its stamp out of their step, which is closed then.
+fn take_committed(step: &mut Step) -> (Plan, Stamp)
+    requires { phase_of step.old ≡ Phase.Committed }
+    ensures was { step.old ≡ Step.Committed result.0 result.1 }
+    ensures left { step.new ≡ Step.Closed None }
+{
+    match mem::replace(step, Step::Closed(None)) {
+        Step::Committed(plan, stamp) => (plan, stamp),
+        _ => unreachable!(),
+    }
 }
 
 /// Takes commands for one database, and publishes the version after each, or after those that are made together.
@@ -223,13 +266,23 @@ impl<S: Alter + Drop> Publisher<S> {
         self.store.failure()
     }
 
+    /// Returns its store and its front, and lets the rest go.
+    fn into_parts(self) -> (Store<S>, Front)
+        ensures tables { result.0.conn ≡ self.tables }
+        ensures stands { Stands S.Store self }
+    {
+        drop(self.step);
+        (self.store, self.front)
+    }
+
     /// Returns the connection, with its tables as they are. It waits for nobody: the front's readers go on, and its
     /// memory is never freed.
     pub fn release(self) -> Connection<S>
         ensures tables { result ≡ self.tables }
         ensures stands { Stands S.Store self }
     {
-        self.store.release()
+        let (store, _front) = self.into_parts();
+        store.release()
     }
 
     /// Ends its front, which waits for readers that are inside, and returns the connection, with its tables as they are.
@@ -237,8 +290,9 @@ impl<S: Alter + Drop> Publisher<S> {
         ensures tables { result ≡ self.tables }
         ensures stands { Stands S.Store self }
     {
-        self.front.end(rt);
-        self.store.release()
+        let (store, front) = self.into_parts();
+        front.end(rt);
+        store.release()
     }
 
     /// Checks commands one after the other. Needs no lock, and of one command no memory.
@@ -284,9 +338,10 @@ impl<S: Alter + Drop> Publisher<S> {
         // Recalls what is stored.
         let _phase = self.phase();
         if !registry.make_room() {
+            drop(checked);
             return Err(Refusal::Busy);
         }
-        self.step = Step::Admitted(checked);
+        go_on(&mut self.step, Step::Admitted(checked));
         Ok(())
     }
 
@@ -303,15 +358,13 @@ impl<S: Alter + Drop> Publisher<S> {
         ensures reason { IfErr result (λ reason. reason ≡ NoMemory) }
         ensures stands { Stands S.Store self.new }
     {
-        match mem::replace(&mut self.step, Step::Ready) {
-            Step::Admitted(checked) => match plan_shown(&mut self.front, &self.version, checked) {
-                Ok(plan) => {
-                    self.step = Step::Prepared(plan);
-                    Ok(())
-                }
-                Err(reason) => Err(reason),
-            },
-            _ => unreachable!(),
+        let checked = take_admitted(&mut self.step);
+        match plan_shown(&mut self.front, &self.version, checked) {
+            Ok(plan) => {
+                go_on(&mut self.step, Step::Prepared(plan));
+                Ok(())
+            }
+            Err(reason) => Err(reason),
         }
     }
 
@@ -336,18 +389,14 @@ impl<S: Alter + Drop> Publisher<S> {
         ensures ran { HasCleanDisk (state S.Store self.new.tables) →
             OnOk result (HaveCommitted S.Store self.old self.old.commands self.new.tables) }
     {
-        match mem::replace(&mut self.step, Step::Closed(None)) {
-            Step::Prepared(plan) => {
-                let number = plan.next.number();
-                match self.store.commit_all(plan.changes.as_slice(), number) {
-                    Ok(stamp) => {
-                        self.step = Step::Committed(plan, stamp);
-                        Ok(())
-                    }
-                    Err(reason) => Err(reason),
-                }
+        let plan = take_prepared(&mut self.step);
+        let number = plan.next.number();
+        match self.store.commit_all(plan.changes.as_slice(), number) {
+            Ok(stamp) => {
+                go_on(&mut self.step, Step::Committed(plan, stamp));
+                Ok(())
             }
-            _ => unreachable!(),
+            Err(reason) => Err(reason),
         }
     }
 
@@ -363,25 +412,21 @@ impl<S: Alter + Drop> Publisher<S> {
         ensures reason { IfErr result (λ reason. reason ≡ NotPublished) }
         ensures stands { Stands S.Store self.new }
     {
-        match mem::replace(&mut self.step, Step::Closed(None)) {
-            Step::Committed(plan, stamp) => {
-                let shown = plan.shown;
-                match self
-                    .front
-                    .publish_all(rt, stamp, Snapshot::of(&plan.commands), shown)
-                {
-                    Ok(_told) => {
-                        self.version = plan.next;
-                        self.step = Step::Published(plan.commands, plan.noted);
-                        Ok(())
-                    }
-                    Err(reason) => {
-                        self.step = Step::Closed(Some(plan.commands));
-                        Err(reason)
-                    }
-                }
+        let (plan, stamp) = take_committed(&mut self.step);
+        let shown = plan.shown;
+        match self
+            .front
+            .publish_all(rt, stamp, Snapshot::of(&plan.commands), shown)
+        {
+            Ok(_told) => {
+                self.version = plan.next;
+                go_on(&mut self.step, Step::Published(plan.commands, plan.noted));
+                Ok(())
             }
-            _ => unreachable!(),
+            Err(reason) => {
+                self.step = Step::Closed(Some(plan.commands));
+                Err(reason)
+            }
         }
     }
 
@@ -581,7 +626,10 @@ impl<S: Alter + Drop> Publisher<S> {
     {
         match self.phase() {
             Phase::Ready => self.submit_checked(rt, domain, Checked::of_set(set)),
-            _ => Err(Refusal::Closed),
+            _ => {
+                drop(set);
+                Err(Refusal::Closed)
+            }
         }
     }
 

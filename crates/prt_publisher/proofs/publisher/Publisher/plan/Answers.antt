@@ -8,9 +8,9 @@ use Rattle.prt_publisher.proofs.publisher.Publisher.plan.Goals as goal
 
 pub returns-in-Err-clause-allowed : goal.returns-in-Err-clause-allowed
 returns-in-Err-clause-allowed g c =
-    let checked = c.in-Admitted.checked in
+    let checked = c.take_admitted-checked.result in
     let s : State = line_state c.self.inside.front in
-    let is : c.self.inside.step ≡ step.Admitted checked = sym c.replace.ensures.value ∙ c.in-Admitted.is in
+    let is : c.self.inside.step ≡ step.Admitted checked = c.take_admitted-checked.ensures.was in
     let are : AreChecked s checked = subst (IsStep s) is c.self.invariant.3 in
     let shown : line_state c.args.self.now.line ≡ s = ap (λ (v : Standing _). line_state v.line) (sym c.self.view_is) in
     let under : c.args.self.now.commands ≡ commands_checked checked = ap (λ (v : Standing _). v.commands) (sym c.self.view_is) ∙ ap commands_of is in
