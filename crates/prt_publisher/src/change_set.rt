@@ -125,6 +125,7 @@ impl ChangeSet {
         };
         for command in commands {
             if let Err(reason) = set.add(command) {
+                drop(set);
                 return Err(reason);
             }
         }

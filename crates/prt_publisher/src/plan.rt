@@ -54,7 +54,10 @@ fn plan_checked(published: &Version, checked: Checked) -> Result<ChangeSet, Refu
             };
             match set.add_checked(&command, change) {
                 Ok(()) => Ok(set),
-                Err(reason) => Err(reason),
+                Err(reason) => {
+                    drop(set);
+                    Err(reason)
+                }
             }
         }
         CheckedCommands::Several(set) => Ok(set),

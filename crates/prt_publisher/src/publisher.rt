@@ -517,10 +517,7 @@ impl<S: Alter + Drop> Publisher<S> {
         if let Err(reason) = admitted {
             return Err(reason);
         }
-        if let Err(reason) = self.plan() {
-            return Err(reason);
-        }
-        Ok(())
+        self.plan()
     }
 
     /// Publishes the version after the committed commands in one swap, notes it, and acknowledges the commands. The
