@@ -1,5 +1,5 @@
 //! Commands that wait and are submitted together.
-ghost use Rattle.std.specs.Prelude.{◌≡◌, ◌++◌, [], ◌∷◌, IfErr, IfOk, IfSome, None, false, true};
+ghost use Rattle.std.specs.Prelude.{◌≡◌, ◌≤◌, ◌++◌, [], ◌∷◌, IfErr, IfOk, IfSome, None, false, length, true};
 ghost use Rattle.prt_front.specs.Line.{line_state};
 ghost use Rattle.prt_service.specs.Group.{AreSubmitted, HaveUnknownFate, IsPartOf, have_unknown_fate};
 ghost use Rattle.prt_service.specs.Service.{AreAnswered};
@@ -8,7 +8,7 @@ use crate::Naming;
 use crate::quiet::QuietPublisher;
 use crate::submitted::Submitted;
 use crate::waiting::Waiting;
-use prt_command::Refusal;
+use prt_command::{Command, Refusal};
 use prt_grace::Domain;
 use prt_publisher::ChangeSet;
 use prt_version::Version;
@@ -92,12 +92,10 @@ impl<J: Naming> Group<J> {
         ensures none { result ≡ None → publisher.new ≡ publisher.old }
     {
         let Group { waiting, set } = self;
-        let Ok(commands) = Vec::from_slice(alloc, set.commands()) else {
+        let Some(commands) = copy_some(alloc, set.commands()) else {
+            drop(set);
             return None;
         };
-        if commands.is_empty() {
-            return None;
-        }
         match publisher.submit_set(rt, domain, set, commands.as_slice()) {
             Ok(last) => Some(Submitted {
                 waiting,
@@ -110,6 +108,16 @@ impl<J: Naming> Group<J> {
             Err(_) => None,
         }
     }
+}
+
+/// Copies commands. `None` if there are none, or if there is no memory for them.
+fn copy_some(alloc: Global, commands: &[Command]) -> Option<Vec<Command>>
+    ensures { IfSome result (λ copied. (copied.items ≡ commands.now) × (1 ≤ length commands.now)) }
+{
+    if commands.is_empty() {
+        return None;
+    }
+    Vec::from_slice(alloc, commands).ok()
 }
 
 /// Checks whether commands that are refused for this may be stored.

@@ -13,6 +13,7 @@ use prt_publisher::Receipt;
 use prt_version::{Answer, Packet, Refusal, Version};
 use sqlite::Alter;
 use std::marker::Model;
+use std::mem;
 use std::sync::{Arc, Wait};
 
 /// Reads one published version at a time, while others are published. One thread has it.
@@ -34,6 +35,13 @@ impl Model for Looker {
     ghost view = { λ l. record { known = l.reader; held = l.held; announced = l.place.announced } };
 
     ghost invariant = { λ l. IsSteady (record { known = l.reader; held = l.held; announced = l.place.announced }) };
+}
+
+/// Holds a version in place of the one before, which is released.
+fn hold(held: &mut Option<HeldVersion>, next: HeldVersion)
+    ensures { held.new ≡ Some next }
+{
+    drop(mem::replace(held, Some(next)));
 }
 
 impl Looker {
@@ -110,7 +118,10 @@ impl Looker {
             let number = version.number();
             if least <= number {
                 // Releases the old version before it says so.
-                self.held = Some(HeldVersion::new(version, self.reader.known()));
+                hold(
+                    &mut self.held,
+                    HeldVersion::new(version, self.reader.known()),
+                );
                 domain.announce(rt, &mut self.place, number);
                 return Ok(());
             }
@@ -125,7 +136,7 @@ impl Looker {
     pub fn rest<S: Alter + Drop, J: Naming, W: Wait>(&mut self, rt: &W, service: &Service<S, J>)
         ensures { self.new ≡ record self.old { held = None; announced = None } }
     {
-        self.held = None;
+        drop(self.held.take());
         service.domain().offline(rt, &mut self.place);
     }
 
