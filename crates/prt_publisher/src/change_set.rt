@@ -53,11 +53,18 @@ impl ChangeSet {
         ensures reason { IfErr result (λ reason. reason ≡ NoMemory) }
     {
         let alloc = *version.shared_rules().allocator();
+        let Ok(base) = version.share() else {
+            return Err(Refusal::NoMemory);
+        };
+        let Ok(last) = version.share() else {
+            drop(base);
+            return Err(Refusal::NoMemory);
+        };
         Ok(ChangeSet {
-            base: version.share()?,
+            base,
             commands: Vec::new(alloc),
             changes: Vec::new(alloc),
-            last: version.share()?,
+            last,
         })
     }
 
