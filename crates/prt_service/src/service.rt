@@ -142,14 +142,19 @@ impl<S: Alter + Drop, J: Naming> Service<S, J> {
         requires { IsStorable command.now }
         ensures { IfSome result (IsAnswer J.book J.base command.now) }
     {
-        let (reply_to, replies) = bounded(self.alloc, 1).ok()?;
+        let Ok((reply_to, replies)) = bounded(self.alloc, 1) else {
+            return None;
+        };
         let entered = self.lobby.lock(rt).enter(Waiting::new(command, reply_to));
         match entered {
             Entered::First => self.submit_waiting(rt),
             Entered::Later => {}
             Entered::Full => return None,
         }
-        replies.recv(rt).ok()?.for_command(command)
+        match replies.recv(rt) {
+            Ok(answer) => answer.for_command(command),
+            Err(_) => None,
+        }
     }
 
     /// Waits for clients that were answered with the last group, as long as more of them come back. Without it half of
