@@ -53,18 +53,11 @@ impl ChangeSet {
         ensures reason { IfErr result (λ reason. reason ≡ NoMemory) }
     {
         let alloc = *version.shared_rules().allocator();
-        let Ok(base) = version.share() else {
-            return Err(Refusal::NoMemory);
-        };
-        let Ok(last) = version.share() else {
-            drop(base);
-            return Err(Refusal::NoMemory);
-        };
         Ok(ChangeSet {
-            base,
+            base: version.share()?,
             commands: Vec::new(alloc),
             changes: Vec::new(alloc),
-            last,
+            last: version.share()?,
         })
     }
 
@@ -132,7 +125,6 @@ impl ChangeSet {
         };
         for command in commands {
             if let Err(reason) = set.add(command) {
-                drop(set);
                 return Err(reason);
             }
         }

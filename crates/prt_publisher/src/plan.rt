@@ -54,10 +54,7 @@ fn plan_checked(published: &Version, checked: Checked) -> Result<ChangeSet, Refu
             };
             match set.add_checked(&command, change) {
                 Ok(()) => Ok(set),
-                Err(reason) => {
-                    drop(set);
-                    Err(reason)
-                }
+                Err(reason) => Err(reason),
             }
         }
         CheckedCommands::Several(set) => Ok(set),

@@ -338,7 +338,6 @@ impl<S: Alter + Drop> Publisher<S> {
         // Recalls what is stored.
         let _phase = self.phase();
         if !registry.make_room() {
-            drop(checked);
             return Err(Refusal::Busy);
         }
         go_on(&mut self.step, Step::Admitted(checked));
@@ -623,10 +622,7 @@ impl<S: Alter + Drop> Publisher<S> {
     {
         match self.phase() {
             Phase::Ready => self.submit_checked(rt, domain, Checked::of_set(set)),
-            _ => {
-                drop(set);
-                Err(Refusal::Closed)
-            }
+            _ => Err(Refusal::Closed),
         }
     }
 

@@ -93,7 +93,6 @@ impl<J: Naming> Group<J> {
     {
         let Group { waiting, set } = self;
         let Some(commands) = copy_some(alloc, set.commands()) else {
-            drop(set);
             return None;
         };
         match publisher.submit_set(rt, domain, set, commands.as_slice()) {
