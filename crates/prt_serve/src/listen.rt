@@ -19,7 +19,7 @@ use std::alloc::{AllocError, Global};
 use std::io::{Read, Write};
 use std::net::{OpenListener, OpenStream};
 use std::sync::{Mutex, Wait};
-use std::thread::{self, JoinHandle, Threads};
+use std::thread::{self, JoinHandle, Scope, Threads};
 use std::time::{Clock, Duration};
 
 /// How many connections may wait for a worker, or to be let into the waiting room.
@@ -88,12 +88,28 @@ pub struct Worked<J: Naming> {
     pub shifts: Vec<Shift<J>>,
 }
 
+impl<J: Naming> Worked<J> {
+    /// Makes that of workers for which there is no memory.
+    fn failed(alloc: Global) -> Worked<J>
+        ensures { result.end.accepting ≡ Accepting.Failed }
+    {
+        Worked {
+            end: ServeEnd {
+                accepting: Accepting::Failed,
+                feeding: Accepting::Ended,
+                refused: None,
+            },
+            shifts: Vec::new(alloc),
+        }
+    }
+}
+
 /// Accepts connections until the turnstile is shut, or this ends by itself.
 fn accept_each<H: Wait + Clock, G: Gate, T: Drop, L: OpenListener<Stream = T> + Drop>(
     rt: &H,
     gate: &G,
     entrance: &Entrance<L>,
-    arrivals: Sender<Arrival<T>>,
+    arrivals: &Sender<Arrival<T>>,
     turnstile: &Turnstile,
 ) -> Accepting {
     let kind = entrance.kind;
@@ -137,7 +153,8 @@ pub fn accept<H: Wait + Clock, G: Gate, T: Drop, L: OpenListener<Stream = T> + D
     arrivals: Sender<Arrival<T>>,
     turnstile: &Turnstile,
 ) -> Accepting {
-    let accepting = accept_each(rt, gate, entrance, arrivals, turnstile);
+    let accepting = accept_each(rt, gate, entrance, &arrivals, turnstile);
+    drop(arrivals);
     turnstile.shut();
     accepting
 }
@@ -357,6 +374,17 @@ impl<J: Naming> Crew<J> {
         self.threads.push(thread).is_ok()
     }
 
+    /// Adds the thread of a worker as `add` does, if it was started.
+    fn add_started(&mut self, thread: Option<JoinHandle<Result<Shift<J>, Refusal>>>) -> bool
+        ensures added { result ≡ true → vec_len self.new.threads ≡ vec_len self.old.threads + 1 }
+        ensures shifts { vec_len self.new.shifts ≡ vec_len self.old.shifts }
+    {
+        match thread {
+            Some(thread) => self.add(thread),
+            None => false,
+        }
+    }
+
     /// Waits until its threads have ended, and returns their shifts, beside how accepting ended.
     fn join<H: Threads>(self, rt: &H, accepting: Accepting) -> Worked<J>
         requires { vec_len self.shifts ≡ 0 }
@@ -406,6 +434,48 @@ impl<J: Naming> Manned<J> {
             accepting: Accepting::Failed,
         }
     }
+
+    /// Waits until the workers have ended, as `Crew::join` does.
+    fn join<H: Threads>(self, rt: &H) -> Worked<J>
+        requires { vec_len self.crew.shifts ≡ 0 }
+        ensures accepting { result.end.accepting ≡ self.accepting }
+        ensures all { result.end.refused ≡ None → vec_len result.shifts ≡ vec_len self.crew.threads }
+    {
+        self.crew.join(rt, self.accepting)
+    }
+}
+
+/// Starts so many workers like this one, and adds their threads to the crew; returns whether all of that went well. The one
+/// that they are like is let go, so that a send fails once no worker is left.
+fn hire_all<
+    's,
+    E: 's,
+    H: Wait + Clock + Sync + 's,
+    S: Alter + Drop + Send + 's,
+    J: Naming + Send + 's,
+    G: Gate + Sync + 's,
+    T: Read + Write + OpenStream + Drop + Send + 's,
+>(scope: &Scope<'s, E>, like: Worker<'s, H, S, J, G, T>, workers: usize, crew: &mut Crew<J>) -> bool
+    ensures added { result ≡ true → vec_len crew.new.threads ≡ vec_len crew.old.threads + workers }
+    ensures shifts { vec_len crew.new.shifts ≡ vec_len crew.old.shifts }
+{
+    for _ in 0..workers {
+        let Ok(jobs) = like.jobs.clone() else {
+            return false;
+        };
+        let worker = Worker::new(
+            like.rt,
+            like.alloc,
+            like.service,
+            like.gate,
+            jobs,
+            like.idle,
+        );
+        if !crew.add_started(scope.spawn(move || worker.serve()).ok()) {
+            return false;
+        }
+    }
+    true
 }
 
 /// Accepts connections, while each of the threads works. Returns once all of them have ended.
@@ -434,8 +504,10 @@ fn accept_among_workers<
         to_room,
         arrivals,
         to_workers,
-        jobs: from_room,
+        jobs,
     } = channels;
+    let worker = Worker::new(rt, alloc, service, gate, jobs, limits.idle);
+    let attendant = Attendant::new(rt, alloc, gate, arrivals, to_workers, limits.idle);
     thread::scope(
         thread::scope_env(),
         rt,
@@ -444,21 +516,9 @@ fn accept_among_workers<
             requires send { IsSync H.row × IsSend S.row × IsSend J.row × IsSync G.row × IsSend T.row × IsSync L.row }
             ensures { (vec_len result.crew.shifts ≡ 0) × (result.accepting ≢ Accepting.Failed → vec_len result.crew.threads ≡ limits.workers) }
         {
-            for _ in 0..limits.workers {
-                let Ok(jobs) = from_room.clone() else {
-                    return Manned::failed(crew);
-                };
-                let worker = Worker::new(rt, alloc, service, gate, jobs, limits.idle);
-                let Ok(thread) = scope.spawn(move || worker.serve()) else {
-                    return Manned::failed(crew);
-                };
-                if !crew.add(thread) {
-                    return Manned::failed(crew);
-                }
+            if !hire_all(scope, worker, limits.workers, &mut crew) {
+                return Manned::failed(crew);
             }
-            // Lets a send fail once no worker is left.
-            drop(from_room);
-            let attendant = Attendant::new(rt, alloc, gate, arrivals, to_workers, limits.idle);
             if scope.spawn(move || attendant.serve()).is_err() {
                 return Manned::failed(crew);
             }
@@ -496,18 +556,12 @@ pub fn serve_all<
 ) -> Worked<J>
     ensures { result.end.accepting ≢ Accepting.Failed → result.end.refused ≡ None → vec_len result.shifts ≡ limits.workers }
 {
-    let (Ok(channels), Ok(crew)) = (Channels::new(alloc), Crew::new(alloc, limits.workers)) else {
-        return Worked {
-            end: ServeEnd {
-                accepting: Accepting::Failed,
-                feeding: Accepting::Ended,
-                refused: None,
-            },
-            shifts: Vec::new(alloc),
-        };
+    let Ok(channels) = Channels::new(alloc) else {
+        return Worked::failed(alloc);
     };
-    let Manned { crew, accepting } = accept_among_workers(
-        rt, alloc, service, gate, entrances, limits, channels, crew,
-    );
-    crew.join(rt, accepting)
+    let Ok(crew) = Crew::new(alloc, limits.workers) else {
+        return Worked::failed(alloc);
+    };
+    let manned = accept_among_workers(rt, alloc, service, gate, entrances, limits, channels, crew);
+    manned.join(rt)
 }
