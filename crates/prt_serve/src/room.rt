@@ -394,7 +394,7 @@ pub(crate) fn attend<H: Wait + Clock, G: Gate, T: Read + Write + OpenStream + Dr
         let has_workers = room.hand_over(rt, &jobs, now);
         gate.queued(room.queued());
         if !has_workers || (is_closed && room.is_empty()) {
-            return;
+            break;
         }
     }
 }
