@@ -447,7 +447,7 @@ impl<J: Naming> Manned<J> {
 
 /// Starts so many workers like this one, and adds their threads to the crew; returns whether all of that went well. The one
 /// that they are like is let go, so that a send fails once no worker is left.
-fn hire_all<
+fn start_workers<
     's,
     E: 's,
     H: Wait + Clock + Sync + 's,
@@ -516,7 +516,7 @@ fn accept_among_workers<
             requires send { IsSync H.row × IsSend S.row × IsSend J.row × IsSync G.row × IsSend T.row × IsSync L.row }
             ensures { (vec_len result.crew.shifts ≡ 0) × (result.accepting ≢ Accepting.Failed → vec_len result.crew.threads ≡ limits.workers) }
         {
-            if !hire_all(scope, worker, limits.workers, &mut crew) {
+            if !start_workers(scope, worker, limits.workers, &mut crew) {
                 return Manned::failed(crew);
             }
             if scope.spawn(move || attendant.serve()).is_err() {
