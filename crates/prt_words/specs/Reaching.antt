@@ -1,7 +1,7 @@
 -- How far the words of `diff` and `follow` reach: tables, protocols and priorities of the kernel's rules and routes.
-use Rattle.std.specs.Prelude.{◌≡◌, ◌≤◌, ◌==◌, ◌&&◌, ℕ, nat_le, All, Bool, Option, if◌then◌else◌, length, map, option_and_then, option_map, unwrap_or, List, [], Some, codes}
+use Rattle.std.specs.Prelude.{◌≡◌, ◌≤◌, ◌==◌, ◌&&◌, ℕ, nat_le, All, Bool, Option, if◌then◌else◌, length, map, option_and_then, option_map, unwrap_or, List, [], Some, codes, false, true}
 use Rattle.std.specs.List.{before_first, after_first, list_any}
-use Rattle.clap.specs.Matches.{found_of, matched_of, raw_values}
+use Rattle.clap.specs.Matches.{found_of, matched_of, one_text, raw_values}
 use Rattle.clap.specs.declared.parser.matches.ArgMatches.{ArgMatches}
 use Rattle.prt_addr.specs.Number.{number}
 use Rattle.prt_addr.specs.Word.{Word, all_of, keep}
@@ -34,12 +34,14 @@ span_of of word = option_and_then (λ first. option_map (λ last. record { first
 abbrev pub values_of : ArgMatches → Word → List Word
 values_of matches name = unwrap_or (option_map raw_values (matched_of (found_of matches) name)) []
 
--- it names what these words name, each in its order
+-- it names what these words name, each in its order, and reaches to all if `--all` is given
 abbrev pub IsReachBy : ArgMatches → Reach → Type 0
 IsReachBy matches reach =
     (Some reach.tables.items ≡ all_of (map (span_of ends.Tables) (values_of matches (codes "table"))))
     × (Some reach.protocols.items ≡ all_of (map protocol (values_of matches (codes "proto"))))
     × (Some reach.priorities.items ≡ all_of (map (span_of ends.Priorities) (values_of matches (codes "priority"))))
+    × (one_text (found_of matches) (codes "all") ≡ Some (codes "true") → reach.all ≡ true)
+    × (one_text (found_of matches) (codes "all") ≡ Some (codes "false") → reach.all ≡ false)
 
 -- a span ends no sooner than it begins
 abbrev pub IsSpan : NumberSpan → Type 0

@@ -19,7 +19,7 @@ returns-then-reach-names_nothing c =
     ∙ ap (λ (words : Bor (List (Bor (List ℕ)))). all_of (map (λ word. span_of ends.Priorities word.now) words.now)) c.unwrap_or-priorities.ensures
     ∙ ap all_of (values_read (span_of ends.Priorities) c.get_strs-3.result _ _ refl c.get_strs-3.ensures) in
     record {
-      reads = (tables, protocols, priorities);
+      reads = (tables, protocols, priorities, c.get_flag.ensures.value, c.get_flag.ensures.other);
       limits = (
         (booleans_Decides c.get_flag.result c.names_nothing.result).0 c.if-reach-names_nothing.true ∙ c.names_nothing.ensures,
         spans_are ends.Tables (values_of c.args.matches.now (codes "table")) c.in-Some.tables.items (sym tables),
