@@ -41,7 +41,7 @@ pub(crate) fn is_permanent(error: &io::Error) -> bool {
     }
 }
 
-/// Accepts a connection. After an error that may pass it notifies the gate, and pauses.
+/// Accepts a connection. It notifies the gate of an error, and pauses after one that may pass.
 pub(crate) fn accept_one<H: Clock, G: Gate, L: OpenListener>(
     rt: &H,
     gate: &G,
@@ -53,10 +53,10 @@ pub(crate) fn accept_one<H: Clock, G: Gate, L: OpenListener>(
             if is_nobody(&error) {
                 return Accepted::Nobody;
             }
+            gate.not_accepted(&error);
             if is_permanent(&error) {
                 return Accepted::Never;
             }
-            gate.not_accepted(&error);
             thread::sleep(rt, Duration::from_millis(PAUSE));
             Accepted::Nobody
         }
