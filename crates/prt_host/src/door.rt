@@ -6,7 +6,7 @@ use std::io::{self, ErrorKind};
 use std::net::{
     Ipv4Addr, Net, OpenListener, OpenStream, SocketAddr, SocketAddrV4, TcpListener, TcpStream,
 };
-use std::os::unix::fs::FileTypeExt;
+use std::os::unix::fs::{FileTypeExt, MetadataExt};
 use std::os::unix::net::{UnixListener, UnixStream};
 use std::time::Duration;
 
@@ -36,14 +36,23 @@ pub enum Door {
     Local(UnixListener),
 }
 
+/// Returns the number of the inode of a file, by which it is known from one that is put in its place. `None` if there is none.
+pub(crate) fn inode_at<F: Files>(files: &F, path: &str) -> Option<u64> {
+    match files.symlink_metadata(path) {
+        Ok(found) => Some(found.ino()),
+        Err(_) => None,
+    }
+}
+
 /// Checks that a file is a socket at which nobody listens.
 fn check_left_over<N: LocalNet, F: Files>(rt: &N, files: &F, path: &str) -> io::Result<()> {
     if !files.symlink_metadata(path)?.file_type().is_socket() {
         return Err(io::Error::from(ErrorKind::AlreadyExists));
     }
     match UnixStream::connect(rt, path) {
+        Ok(_) => Err(io::Error::from(ErrorKind::AddrInUse)),
         Err(error) if error.kind() == ErrorKind::ConnectionRefused => Ok(()),
-        _ => Err(io::Error::from(ErrorKind::AddrInUse)),
+        Err(error) => Err(error),
     }
 }
 
@@ -51,7 +60,11 @@ fn check_left_over<N: LocalNet, F: Files>(rt: &N, files: &F, path: &str) -> io::
 fn bind_at<N: LocalNet, F: Files>(rt: &N, files: &F, path: &str) -> io::Result<UnixListener> {
     match rt.bind_local(path) {
         Err(error) if error.kind() == ErrorKind::AddrInUse => {
+            let inode = inode_at(files, path);
             check_left_over(rt, files, path)?;
+            if inode_at(files, path) != inode {
+                return Err(error);
+            }
             files.remove_file(path)?;
             rt.bind_local(path)
         }

@@ -1,6 +1,6 @@
 //! Where a server listens, all of it.
 
-use crate::door::ServerNet;
+use crate::door::{ServerNet, inode_at};
 use prt_questions::Socket;
 use prt_serve::{Entrance, Entrances, Kind};
 use prt_words::Serving;
@@ -8,7 +8,7 @@ use std::alloc::Global;
 use std::fmt;
 use std::fs::Files;
 use std::io::{self, ErrorKind, Write};
-use std::net::{OpenListener, SocketAddrV4};
+use std::net::{OpenListener, SocketAddr, SocketAddrV4};
 
 /// The names of the sockets in their directory, in the order in which they are made. The status comes first: to ask there
 /// whether an earlier server still answers takes no session of it.
@@ -27,6 +27,8 @@ pub(crate) enum Place<'a> {
     Socket(&'a str, &'static str),
     /// A directory of sockets.
     Directory(&'a str),
+    /// Where it is said that a server listens.
+    Output,
 }
 
 impl<'a> fmt::Display for Place<'a> {
@@ -35,6 +37,7 @@ impl<'a> fmt::Display for Place<'a> {
             Place::Address(address) => write!(f, "{address}"),
             Place::Socket(directory, name) => write!(f, "{directory}/{name}"),
             Place::Directory(directory) => write!(f, "{directory}"),
+            Place::Output => f.write_str("standard output"),
         }
     }
 }
@@ -46,6 +49,8 @@ pub(crate) enum ListenError {
     Served,
     /// The file is no socket.
     NoSocket,
+    /// The directory has no name, so the sockets would be in the root.
+    NoName,
     System(io::Error),
 }
 
@@ -65,6 +70,7 @@ impl fmt::Display for ListenError {
         match self {
             ListenError::Served => f.write_str("another server listens there"),
             ListenError::NoSocket => f.write_str("the file is no socket"),
+            ListenError::NoName => f.write_str("the name of the directory is empty"),
             ListenError::System(error) => write!(f, "{error}"),
         }
     }
@@ -76,11 +82,27 @@ pub(crate) struct NotListened<'a> {
     pub(crate) error: ListenError,
 }
 
+/// A socket file that a server made.
+#[derive(Drop)]
+struct SocketFile {
+    path: String,
+    inode: Option<u64>,
+}
+
+impl SocketFile {
+    /// Removes it, unless another server has put one in its place.
+    fn remove<F: Files>(&self, files: &F) {
+        if inode_at(files, &self.path) == self.inode {
+            let _removed = files.remove_file(&self.path).is_ok();
+        }
+    }
+}
+
 /// Where a server listens, and the socket files that it made.
 #[derive(Drop)]
 pub(crate) struct Doors<N: ServerNet> {
     pub(crate) entrances: Entrances<N::Door>,
-    files: Vec<String>,
+    files: Vec<SocketFile>,
 }
 
 impl<N: ServerNet> Doors<N> {
@@ -124,7 +146,8 @@ impl<N: ServerNet> Doors<N> {
         let path = format!(in alloc; "{directory}/{}", socket.name())?;
         self.files.reserve(1)?;
         let listener = rt.at_path(files, &path)?;
-        self.files.push_reserved(path);
+        let inode = inode_at(files, &path);
+        self.files.push_reserved(SocketFile { path, inode });
         self.add(socket, listener)
     }
 
@@ -136,6 +159,12 @@ impl<N: ServerNet> Doors<N> {
         alloc: Global,
         directory: &'a str,
     ) -> Result<(), NotListened<'a>> {
+        if directory.is_empty() {
+            return Err(NotListened {
+                place: Place::Directory("--sockets"),
+                error: ListenError::NoName,
+            });
+        }
         for socket in SOCKETS {
             if let Err(error) = self.open_socket(rt, files, alloc, directory, socket) {
                 let place = match error.kind() {
@@ -149,38 +178,35 @@ impl<N: ServerNet> Doors<N> {
         Ok(())
     }
 
-    /// Removes the socket files. The listeners still have them, so no other server has taken one over.
+    /// Removes the socket files, except those in whose place another server has put its own.
     pub(crate) fn remove_files<F: Files>(&self, files: &F) {
-        for path in &self.files {
-            let _removed = files.remove_file(path).is_ok();
+        for file in &self.files {
+            file.remove(files);
         }
     }
 }
 
-/// Listens at a port, and says where on `output`, after this word.
-fn bind_and_tell<N: ServerNet, W: Write>(
-    rt: &N,
-    place: SocketAddrV4,
-    word: &str,
-    output: &mut W,
-) -> io::Result<N::Door> {
+/// Listens at a port. Returns the address too, in which port 0 is a free one.
+fn bind<N: ServerNet>(rt: &N, place: SocketAddrV4) -> io::Result<(N::Door, SocketAddr)> {
     let door = rt.at_address(place)?;
     let address = door.local_addr()?;
-    write!(output, "{word} {address}\n")?;
-    output.flush()?;
-    Ok(door)
+    Ok((door, address))
 }
 
-/// Says on `output` in which directory the sockets are.
-fn tell_directory<W: Write>(directory: &str, output: &mut W) -> io::Result<()> {
-    write!(output, "sockets {directory}\n")?;
-    output.flush()
+/// Says on `output` that a server listens at a place, after this word.
+fn tell_place<P: fmt::Display, W: Write>(
+    word: &str,
+    place: &P,
+    output: &mut W,
+) -> Result<(), NotListened<'static>> {
+    let told = write!(output, "{word} {place}\n").and_then(|()| output.flush());
+    named(Place::Output, told)
 }
 
 /// Names the place in the error, if there is one.
-fn named(place: Place<'_>, done: io::Result<()>) -> Result<(), NotListened<'_>> {
+fn named<T>(place: Place<'_>, done: io::Result<T>) -> Result<T, NotListened<'_>> {
     match done {
-        Ok(()) => Ok(()),
+        Ok(made) => Ok(made),
         Err(error) => Err(NotListened {
             place,
             error: ListenError::System(error),
@@ -200,11 +226,9 @@ fn open_port<N: ServerNet, W: Write>(
     let Some(place) = asked else {
         return Ok(());
     };
-    let done = match bind_and_tell(rt, place, word, output) {
-        Ok(door) => doors.add(socket, door),
-        Err(error) => Err(error),
-    };
-    named(Place::Address(place), done)
+    let (door, address) = named(Place::Address(place), bind(rt, place))?;
+    named(Place::Address(place), doors.add(socket, door))?;
+    tell_place(word, &address, output)
 }
 
 /// Listens at the ports that are asked for.
@@ -238,10 +262,7 @@ fn open_all<'a, N: ServerNet, F: Files, W: Write>(
     open_ports(doors, rt, asked, output)?;
     if let Some(directory) = asked.sockets {
         doors.open_sockets(rt, files, alloc, directory)?;
-        named(
-            Place::Directory(directory),
-            tell_directory(directory, output),
-        )?;
+        tell_place("sockets", &directory, output)?;
     }
     Ok(())
 }

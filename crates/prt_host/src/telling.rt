@@ -149,6 +149,8 @@ impl<'a, H: Wait + Clock, S: Alter + Drop, J: Naming, F: Measures, E: Write + Dr
                 self.counts.accept();
                 self.log(*number, session, client, text);
             }
+            // A client that went, or was silent for too long, had no line refused.
+            Reply::Refused(Refusal::ReadFault | Refusal::WriteFault) => {}
             Reply::Refused(reason) => {
                 self.counts.refuse();
                 if let Refusal::StoreFailed(_) = reason {

@@ -94,6 +94,32 @@ def places():
     shutil.rmtree("run")
 
 
+def replaced():
+    """Sockets that another server has put in the place of ours stay when ours ends. A folder has to be named, and standard output
+    is named if it can't be written."""
+    os.mkdir("run")
+    words = [PROGRAM, "serve", "--db", "first.db", "--sockets", "./run", "--listen", "127.0.0.1:0", "--sessions", "1"]
+    first = subprocess.Popen(words, stdout=subprocess.PIPE, text=True)
+    RUNNING.append(first)
+    port = int(first.stdout.readline().rpartition(":")[2])
+    first.stdout.readline()
+    for name in NAMES:
+        os.remove(f"run/{name}")
+    second = Server(database="second.db", folder="./run")
+    end = connected(port)
+    end.sendall(b"route get 10.1.2.3\n")
+    end.shutdown(socket.SHUT_WR)
+    print(read_all(end), first.wait(PATIENCE), sorted(os.listdir("run")) == NAMES)
+    print(Client(second).ask("route get 10.1.2.3"))
+    second.kill(9)
+    shutil.rmtree("run")
+    print(serve("--db", "second.db", "--sockets", ""))
+    with open("/dev/full", "w", encoding="ascii") as full:
+        words = [PROGRAM, "serve", "--db", "second.db", "--listen", "127.0.0.1:0"]
+        done = subprocess.run(words, stdin=subprocess.DEVNULL, stdout=full, stderr=subprocess.PIPE, text=True, timeout=PATIENCE)
+    print(done.returncode, done.stderr.splitlines()[-1])
+
+
 def refused():
     """Folders in which no socket can be made. None is left of those that could."""
     with open("file", "x", encoding="ascii"):
@@ -160,6 +186,7 @@ def main():
     served()
     left_over()
     places()
+    replaced()
     refused()
     if os.getuid() == 0:
         users()
