@@ -1,7 +1,9 @@
 //! The lines for each change of a feed.
-ghost use Rattle.std.specs.Prelude.{◌≡◌, MatchResult, false, true};
-ghost use Rattle.prt_ask.specs.Mirrors.{Follows};
+ghost use Rattle.std.specs.Prelude.{◌≡◌, [], ◌∷◌, List, MatchResult, Option, false, true, ℕ};
 ghost use Rattle.prt_ask.specs.Ends.{is_whole};
+ghost use Rattle.prt_ask.specs.Fed.{AreRead};
+ghost use Rattle.prt_ask.specs.Mirrors.{AreAtMost, Follows};
+ghost use Rattle.prt_feed.specs.declared.change.Change.{Change};
 
 use crate::mirror::Mirror;
 use crate::notes::Notes;
@@ -49,8 +51,8 @@ fn write_lines<W: Write, E: Write>(
     output: &mut W,
     errors: &mut E,
 ) -> Result<(), FollowEnd>
-    ensures { MatchResult result (λ _. Follows mirror.old mirror.new true (W.contents output.old) (W.contents output.new))
-        (λ end. Follows mirror.old mirror.new (is_whole end) (W.contents output.old) (W.contents output.new)) }
+    ensures { MatchResult result (λ _. Follows mirror.old mirror.new (change.now ∷ []) true (W.contents output.old) (W.contents output.new))
+        (λ end. (changes : List Change) × AreAtMost change.now changes × Follows mirror.old mirror.new changes (is_whole end) (W.contents output.old) (W.contents output.new)) }
 {
     let answer = match mirror.follow(alloc, change) {
         Ok(answer) => answer,
@@ -77,7 +79,7 @@ pub fn follow<R: Read, W: Write, E: Write>(
     output: &mut W,
     errors: &mut E,
 ) -> FollowEnd
-    ensures { Follows mirror.old mirror.new (is_whole result) (W.contents output.old) (W.contents output.new) }
+    ensures { (changes : List Change) × (read : Option (List ℕ)) × AreRead (R.remaining reader.old) read changes × Follows mirror.old mirror.new changes (is_whole result) (W.contents output.old) (W.contents output.new) }
 {
     for _line in 0..u64::MAX {
         let change = match read_change(reader) {

@@ -96,3 +96,8 @@ module _ {M S : Type 0} (g : Ghosts S) (opens : Wanted → M → M → List ℕ 
 pub told_said : (tells : State → Type 0) (replies : List ℕ → Type 0) (told : Told) (inquiry : Inquiry) (text : List ℕ) → TellsOrReplies tells replies told → IsSaidOf told inquiry text → IsTold tells replies inquiry text
 told_said tells replies (Tables version) inquiry text tells_it is = inl (version, tells_it, is)
 told_said tells replies (Reply reply) inquiry text replies_it is = inr (reply.items, replies_it, is)
+
+-- an answer, or a reply to what is a query
+pub or_query : {Query Answered Replied : Type 0} → Query → Answered ⊎ Replied → Answered ⊎ (Query × Replied)
+or_query query (inl answered) = inl answered
+or_query query (inr replied) = inr (query, replied)

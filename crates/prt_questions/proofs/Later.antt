@@ -36,7 +36,7 @@ module _ (reads gives : List ℕ → Type 0) (more : (text : List ℕ) → reads
   pub rehearsed_by : (rehearsing : Rehearsing) (status : ℕ) (state : State) → IsRehearsed reads writer0 writer rehearsing status state → IsRehearsed gives writer0 writer rehearsing status state
   unfolding shown_by
   rehearsed_by rehearsing status state (inl stopped) = inl (stopped_by rehearsing state stopped.0, stopped.1, stopped.2)
-  rehearsed_by rehearsing status state (inr shown) = inr (shown_by (sameness_of rehearsing.exactness) state shown.0, shown.1, shown.2)
+  rehearsed_by rehearsing status state (inr shown) = inr (shown_by (sameness_of rehearsing.exactness) state shown.0, shown.1, shown.2, shown.3)
 
   pub rehearsed_at_most_by : (rehearsing : Rehearsing) (state : State) → IsRehearsedAtMost reads writer0 writer rehearsing state → IsRehearsedAtMost gives writer0 writer rehearsing state
   unfolding shown_by

@@ -5,6 +5,7 @@ mod Followed
 mod ReadTables
 mod Rehearsals
 mod Applied
+mod InParts
 mod Later
 mod Submitted
 mod Told

@@ -61,9 +61,9 @@ told_in reaches said net place line stream reached known is (Tables version) rea
   stream = stream;
   reached = reached.1;
   rest = read.0;
-  opening = read.1;
-  read = subst (λ bytes. IsOpening bytes read.0 read.1) is read.2;
-  spelled = read.3;
+  opening = read.1.0;
+  read = subst (λ bytes. IsOpening bytes read.0 read.1.0) is read.1.1;
+  spelled = read.1.2;
 }
 told_in reaches said net place line stream reached known is (Reply reply) read = (reached.0, stream, reached.1, subst (λ bytes. IfSome bytes (λ all. reply.items ≡ all)) is read)
 

@@ -11,7 +11,7 @@ use Rattle.prt_impact.specs.Groups.{AreGroups}
 use Rattle.prt_impact.specs.Text.{groups_text}
 use Rattle.prt_impact.specs.GroupsJson.{groups_json}
 use Rattle.prt_impact.specs.declared.group.Group.{Group}
-use Rattle.prt_import.specs.Accepted.{IsExecutedOver}
+use Rattle.prt_import.specs.Accepted.{IsExecuted, IsExecutedOver}
 use Rattle.prt_import.specs.declared.accepted.Accepted.{Accepted}
 use Rattle.prt_explain.specs.Explanation.{explanation_text}
 use Rattle.prt_json.specs.Fields.{json_line}
@@ -29,9 +29,10 @@ use Rattle.prt_words.specs.declared.analysis.Rehearsing.{Rehearsing}
 use Rattle.prt_words.specs.declared.asking.Form.{Form}
 use Rattle.prt_words.specs.declared.asking.Form.TheVariants.{Json, Lines}
 use Rattle.prt_words.specs.declared.asking.Source.{Source}
+use Rattle.prt_words.specs.declared.asking.Source.TheVariants.{Script}
 use Rattle.prt_words.specs.declared.fault.TheConstants.{DONE}
-use Rattle.prt_questions.specs.Asking.{IsAskedOf, IsCutOff, IsNotAsked, is_kernels}
-use Rattle.prt_questions.specs.Sources.{Sources}
+use Rattle.prt_questions.specs.Asking.{AreKernels, IsAskedOf, IsCutOff, IsNotAsked, is_kernels}
+use Rattle.prt_questions.specs.Sources.{Gives, Sources, path_of}
 use Rattle.prt_questions.specs.declared.asking.TheConstants.{REFUSED}
 use Rattle.prt_questions.specs.declared.machine.Wanted.{Wanted}
 
@@ -77,12 +78,13 @@ breaches_text explained state breaches = flat_map (breach_lines explained state)
 
 -- of the script or the claims that were read
 module _ (reads : List ℕ → Type 0) (writer0 writer : Option (List ℕ)) where
-  -- all groups were written; with status 0 there are none
+  -- all groups were written; with status 0 there are none, and no line of the script is refused
   abbrev pub ShowsImpact : Rehearsing → (status : ℕ) → State → Type 0
   ShowsImpact rehearsing status state =
       (rehearsed : Rehearsed reads (sameness_of rehearsing.exactness) state)
       × Appends writer0 writer (impact_text rehearsing.form rehearsed.groups)
-      × (status ≡ DONE → rehearsed.groups ≡ [])
+      × (rehearsing.on_refusal ≡ Stop → AreKernels rehearsed.made.left.items)
+      × (status ≡ DONE → (rehearsed.groups ≡ []) × AreKernels rehearsed.made.left.items)
 
   -- or nothing was written, since a line of the script is refused; then the status is 1
   abbrev pub IsRehearsed : Rehearsing → (status : ℕ) → State → Type 0
@@ -123,17 +125,21 @@ module _ (writer0 writer : Option (List ℕ)) where
 -- ---- of the tables of a source
 
 module _ {M S : Type 0} (g : Ghosts S) (opens : Wanted → M → M → List ℕ → Held S → Type 0) (refuses : Wanted → M → M → List ℕ → Type 0) (closes : M → M → Held S → Type 0) (from : Sources) (old new : M) where
-  -- the tables of a source were read
-  abbrev pub HaveTables : Source → State → Type 0
-  HaveTables source tables = IsAskedOf g opens refuses closes from old new source (λ state. tables ≡ state)
+  -- the tables of a source were read; if this status is 0, no line of a script was left out, except what the kernel makes itself
+  abbrev pub HaveTables : Source → (left : ℕ) → State → Type 0
+  HaveTables (Script file) left tables =
+      (new ≡ old) × (made : Accepted) × (text : List ℕ) × Gives from (path_of file) text × IsExecuted made text × (left ≡ DONE → AreKernels made.left.items) × (tables ≡ made.version)
+  HaveTables source left tables = IsAskedOf g opens refuses closes from old new source (λ state. tables ≡ state)
 
   -- they were not, or memory was refused after that
   abbrev pub IsNotRead : Source → Type 0
   IsNotRead source = IsNotAsked g opens refuses closes old new source ⊎ IsAskedOf g opens refuses closes from old new source (λ state. Unit {0})
 
-  -- this holds of them and of what was written
-  abbrev pub IsFoundOf : Source → (State → Type 0) → Type 0
-  IsFoundOf source Holds = IsAskedOf g opens refuses closes from old new source Holds
+  -- this holds of them and of what was written; with status 0 no line of a script was left out
+  abbrev pub IsFoundOf : Source → (status : ℕ) → (State → Type 0) → Type 0
+  IsFoundOf (Script file) status Holds =
+      (new ≡ old) × (made : Accepted) × (text : List ℕ) × Gives from (path_of file) text × IsExecuted made text × (status ≡ DONE → AreKernels made.left.items) × Holds made.version
+  IsFoundOf source status Holds = IsAskedOf g opens refuses closes from old new source Holds
 
   -- in any case: they were not read, and nothing was written; or this holds
   abbrev pub IsFoundAtMost : (writer0 writer : Option (List ℕ)) → Source → (State → Type 0) → Type 0

@@ -1,7 +1,8 @@
 -- Tables that are made what a script makes of a new database.
-use Rattle.std.specs.Prelude.{◌≡◌, ◌⊎◌, ◌++◌, ℕ, Bool, true, false, List, Option, codes, decimal, length}
+use Rattle.std.specs.Prelude.{◌≡◌, ◌⊎◌, ◌++◌, ℕ, Bool, true, false, List, [], Option, Some, codes, decimal, length}
 use Rattle.std.specs.Io.KnownBytes.{Appends}
-use Rattle.sqlite.specs.Held.{Held}
+use Rattle.sqlite.specs.Held.{Held, state}
+use Rattle.sqlite.specs.State.{HasCleanDisk}
 use Rattle.sqlite.specs.Store.{Ghosts}
 use Rattle.prt_apply.specs.Brings.{AreAlike}
 use Rattle.prt_apply.specs.Plan.{plan}
@@ -13,16 +14,19 @@ use Rattle.prt_impact.specs.declared.group.Group.{Group}
 use Rattle.prt_import.specs.Accepted.{IsExecuted}
 use Rattle.prt_import.specs.declared.accepted.Accepted.{Accepted}
 use Rattle.prt_partition.specs.declared.sameness.Sameness.TheVariants.{Outcomes}
+use Rattle.prt_publisher.specs.Exits.{HaveCommitted}
 use Rattle.prt_publisher.specs.Openings.{OpensOne}
 use Rattle.prt_publisher.specs.Standing.{IsQuiet, Standing, Stands}
 use Rattle.prt_publisher.specs.declared.phase.Phase.TheVariants.{Ready}
 use Rattle.prt_version.specs.State.{State}
+use Rattle.prt_words.specs.declared.server_place.ServerPlace.{ServerPlace}
 use Rattle.prt_words.specs.declared.service.Applying.{Applying}
 use Rattle.prt_words.specs.declared.service.Target.{Target}
 use Rattle.prt_words.specs.declared.service.Target.TheVariants.{Database, Server}
 use Rattle.prt_questions.specs.Asking.{AreKernels, IsCutOff, IsNotOpened, comments_of}
 use Rattle.prt_questions.specs.Closing.{IsClosedAgain}
 use Rattle.prt_questions.specs.Sources.{Gives, Sources, path_of}
+use Rattle.prt_questions.specs.Submitting.{AreMadeInParts}
 use Rattle.prt_questions.specs.declared.machine.Wanted.{Wanted}
 use Rattle.prt_questions.specs.declared.machine.Wanted.TheVariants.{Any, Ours}
 
@@ -48,10 +52,14 @@ pub record Leaves {S : Type 0} (g : Ghosts S) (begun : Standing (Held S)) (last 
   pub file : done.ours_first ≡ begun.ours_first
   pub stands : Stands g done
 
--- It made the tables those that are wanted, and is ready: what it published is stored. Or the changes were only planned, and
--- nothing was stored.
+-- all changes were stored in one transaction, unless there were none
+abbrev pub AreStoredTogether : {S : Type 0} → Ghosts S → Standing (Held S) → List Command → Standing (Held S) → Type 0
+AreStoredTogether g old commands new = ((commands ≡ []) × (new ≡ old)) ⊎ (HasCleanDisk (state g new.tables) → HaveCommitted g old commands new.tables)
+
+-- It made the tables those that are wanted, together, and is ready: what it published is stored. Or the changes were only
+-- planned, and nothing was stored.
 abbrev pub MakesTables : {S : Type 0} {g : Ghosts S} {begun : Standing (Held S)} {last : Held S} → (is_dry_run : Bool) → State → Leaves g begun last → Type 0
-MakesTables {S} {g} {begun} false wanted left = (left.done.phase ≡ Ready) × AreAlike (line_state left.done.line) wanted
+MakesTables {S} {g} {begun} false wanted left = (left.done.phase ≡ Ready) × AreAlike (line_state left.done.line) wanted × AreStoredTogether g begun (plan (line_state begun.line) wanted) left.done
 MakesTables {S} {g} {begun} true wanted left = left.done ≡ begun
 
 -- all that is printed of a plan was printed
@@ -68,9 +76,10 @@ Makes g shows is_dry_run wanted writer0 writer first last =
     (begun : Standing (Held _)) × OpensOne g (λ was. was ≡ first) begun × ((left : Leaves g begun last) × MakesTables is_dry_run wanted left)
     × IsPrinted shows (line_state begun.line) wanted writer0 writer
 
-abbrev pub MakesAtMost : {S : Type 0} → Ghosts S → (shows : Bool) → (wanted : State) → (writer0 writer : Option (List ℕ)) → Held S → Held S → Type 0
-MakesAtMost g shows wanted writer0 writer first last =
-    (begun : Standing (Held _)) × OpensOne g (λ was. was ≡ first) begun × Leaves g begun last × IsPrintedAtMost shows (line_state begun.line) wanted writer0 writer
+-- or it did so in part; of changes that are only planned it stores none
+abbrev pub MakesAtMost : {S : Type 0} → Ghosts S → (shows is_dry_run : Bool) → (wanted : State) → (writer0 writer : Option (List ℕ)) → Held S → Held S → Type 0
+MakesAtMost g shows is_dry_run wanted writer0 writer first last =
+    (begun : Standing (Held _)) × OpensOne g (λ was. was ≡ first) begun × ((left : Leaves g begun last) × (is_dry_run ≡ true → left.done ≡ begun)) × IsPrintedAtMost shows (line_state begun.line) wanted writer0 writer
 
 -- which database is opened: changes that are only printed make none
 abbrev pub wanted_by : (is_dry_run : Bool) → Wanted
@@ -81,6 +90,11 @@ wanted_by false = Any
 abbrev pub IsMadeAt : {M S : Type 0} → Ghosts S → (opens : Wanted → M → M → List ℕ → Held S → Type 0) → (closes : M → M → Held S → Type 0) → (old new : M) → (writer0 writer : Option (List ℕ)) → (path : List ℕ) → (shows is_dry_run : Bool) → (wanted : State) → Type 0
 IsMadeAt g opens closes old new writer0 writer path shows is_dry_run wanted = IsClosedAgain (opens (wanted_by is_dry_run)) closes (Makes g shows is_dry_run wanted writer0 writer) old new path
 
+-- a server accepted the changes that make the tables that it told those that are wanted, where it takes them; or they were only planned
+abbrev pub AreMadeBy : (submits : ServerPlace → List ℕ → List ℕ → Type 0) → Option ServerPlace → (is_dry_run : Bool) → (told wanted : State) → Type 0
+AreMadeBy submits named true told wanted = Unit {0}
+AreMadeBy submits named false told wanted = (place : ServerPlace) × (named ≡ Some place) × AreMadeInParts (submits place) told.count (plan told wanted)
+
 -- what a script that was read makes of a new database, none of whose lines is refused
 abbrev pub IsScript : (reads : List ℕ → Type 0) → Accepted → Type 0
 IsScript reads made = (text : List ℕ) × reads text × IsExecuted made text × AreKernels made.left.items
@@ -90,13 +104,13 @@ module _ {M S : Type 0} (g : Ghosts S) (opens : Wanted → M → M → List ℕ 
   abbrev pub IsMadeAtMost : (path : List ℕ) (shows is_dry_run : Bool) → (wanted : State) → Type 0
   IsMadeAtMost path shows is_dry_run wanted =
       (IsNotOpened g opens refuses closes old new (wanted_by is_dry_run) path × (writer ≡ writer0))
-      ⊎ IsClosedAgain (opens (wanted_by is_dry_run)) closes (MakesAtMost g shows wanted writer0 writer) old new path
+      ⊎ IsClosedAgain (opens (wanted_by is_dry_run)) closes (MakesAtMost g shows is_dry_run wanted writer0 writer) old new path
 
 module _ {M S : Type 0} (g : Ghosts S) (opens : Wanted → M → M → List ℕ → Held S → Type 0) (refuses : Wanted → M → M → List ℕ → Type 0) (closes : M → M → Held S → Type 0) (from : Sources) (old new : M) (writer0 writer : Option (List ℕ)) where
-  -- the tables of a target were made these; of a server this is what it told before
+  -- the tables of a target were made these: a server told what they were before, and accepted the changes
   abbrev pub IsAppliedTo : Target → (shows is_dry_run : Bool) → (wanted : State) → Type 0
   IsAppliedTo (Database path) shows is_dry_run wanted = IsMadeAt g opens closes old new writer0 writer path.now shows is_dry_run wanted
-  IsAppliedTo (Server ends) shows is_dry_run wanted = (new ≡ old) × ((told : State) × from.tells ends.feed told × IsPrinted shows told wanted writer0 writer)
+  IsAppliedTo (Server ends) shows is_dry_run wanted = (new ≡ old) × ((told : State) × from.tells ends.feed told × AreMadeBy from.submits ends.atomic is_dry_run told wanted × IsPrinted shows told wanted writer0 writer)
 
   -- in any case
   abbrev pub IsAppliedAtMost : Target → (shows is_dry_run : Bool) → (wanted : State) → Type 0

@@ -20,6 +20,7 @@ use Rattle.prt_impact.specs.Text.{group_text}
 use Rattle.prt_impact.specs.declared.group.Group.{Group}
 use Rattle.prt_import.specs.Accepted.{IsExecuted, IsExecutedOver}
 use Rattle.prt_import.specs.Imported.{IsImportOf}
+use Rattle.prt_import.specs.Listed.{listing_fault}
 use Rattle.prt_import.specs.Naming.{with_names}
 use Rattle.prt_import.specs.TableNames.{KnownNames, TableNames, names_of}
 use Rattle.prt_import.specs.declared.accepted.Accepted.{Accepted}
@@ -77,6 +78,11 @@ IsTold tells replies inquiry text = ((told : State) × tells told × (text ≡ s
 abbrev pub IsCutOff : List ℕ → (writer0 writer : Option (List ℕ)) → Type 0
 IsCutOff text writer0 writer = (writer ≡ writer0) ⊎ Written false writer0 writer text
 
+-- a query whose answer is wanted in lines
+abbrev pub IsQuery : Question → Type 0
+IsQuery (questions.Query query InLines) = Unit {0}
+IsQuery question = ⊥
+
 -- the destination of the packet that is asked about, if one is
 abbrev pub destination_of : Question → Option Addr
 destination_of (questions.Query (Get packet) form) = Some packet.dst
@@ -98,12 +104,13 @@ pub record IsMadeOf (lines : List ℕ) (accepted : Accepted) : Type 0 where
   pub is_of : IsImportOf imported names lines
   pub executed : IsExecuted accepted imported.script.items
 
--- What one accepts of a text that was read.
+-- What one accepts of a text that was read, and that may be taken as a whole listing.
 pub record IsListing (reads : List ℕ → Type 0) (accepted : Accepted) : Type 0 where
   pub text : List ℕ
   pub read : reads text
   pub lines : List ℕ
   pub are : AreLinesOf text lines
+  pub whole : listing_fault lines ≡ None
   pub made : IsMadeOf lines accepted
 
 abbrev pub is_kernel : Reason → Bool
@@ -124,7 +131,7 @@ AreKept lines accepted = (made : IsMadeOf lines accepted) × AreKernels made.imp
 
 -- a listing that is kept
 abbrev pub IsWholeListing : (reads : List ℕ → Type 0) → Accepted → Type 0
-IsWholeListing reads accepted = (text : List ℕ) × reads text × (lines : List ℕ) × AreLinesOf text lines × AreKept lines accepted
+IsWholeListing reads accepted = (text : List ℕ) × reads text × (lines : List ℕ) × AreLinesOf text lines × (listing_fault lines ≡ None) × AreKept lines accepted
 
 -- ---- the packets that a difference sends another way
 
@@ -165,7 +172,7 @@ abbrev pub HasFollowedAtMost : Sources → (writer0 writer : Option (List ℕ)) 
 HasFollowedAtMost from writer0 writer file place reach =
     (writer ≡ writer0)
     ⊎ ((accepted : Accepted) × IsListing (Gives from file) accepted × (fence : Fence) × IsFenceOf reach fence × (told : State) × from.tells place told × (commands : List Command)
-    × IsAccepted told commands × Written false writer0 writer (follow_text fence accepted.version told commands))
+    × from.feeds place told commands × IsAccepted told commands × Written false writer0 writer (follow_text fence accepted.version told commands))
 
 -- ---- what was done
 
@@ -212,12 +219,12 @@ module _ {M S : Type 0} (g : Ghosts S) (opens : Wanted → M → M → List ℕ 
   IsRepliedAtMost (Server place) line calls = (new ≡ old) × (reply : List ℕ) × from.replies place line reply × IsCutOff (calls reply) writer0 writer
   IsRepliedAtMost source line calls = ⊥
 
-  -- a question was asked, and all of its answer was written
+  -- a question was asked, and all of its answer was written; a session of a server is asked queries alone
   abbrev pub HasAnswered : Asking → Type 0
   HasAnswered asking =
       (asked : Question) × (question asking.verb asking.line.items asking.form ≡ Ok asked)
       × (names : TableNames) × (IsAnswered asking.source (λ state. called asking.labels asking.form names (answer asked state))
-      ⊎ IsReplied asking.source asking.line.items (called asking.labels asking.form names))
+      ⊎ (IsQuery asked × IsReplied asking.source asking.line.items (called asking.labels asking.form names)))
 
   -- in any case: its words ask nothing, or it was answered in part at most
   abbrev pub HasAnsweredAtMost : Asking → Type 0
@@ -225,7 +232,7 @@ module _ {M S : Type 0} (g : Ghosts S) (opens : Wanted → M → M → List ℕ 
       (IsNotAsked g opens refuses closes old new asking.source × (writer ≡ writer0))
       ⊎ ((asked : Question) × (question asking.verb asking.line.items asking.form ≡ Ok asked)
       × (names : TableNames) × (IsAnsweredAtMost asking.source (λ state. called asking.labels asking.form names (answer asked state))
-      ⊎ IsRepliedAtMost asking.source asking.line.items (called asking.labels asking.form names)))
+      ⊎ (IsQuery asked × IsRepliedAtMost asking.source asking.line.items (called asking.labels asking.form names))))
 
 module _ {M S : Type 0} (g : Ghosts S) (opens : Wanted → M → M → List ℕ → Held S → Type 0) (refuses : Wanted → M → M → List ℕ → Type 0) (closes : M → M → Held S → Type 0) (from : Sources) (old new : M) (writer0 writer : Option (List ℕ)) where
   -- what differs from a state that was found was written, or nothing differs

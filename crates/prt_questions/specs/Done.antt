@@ -21,17 +21,17 @@ module _ {M S : Type 0} (g : Ghosts S) (opens : Wanted → M → M → List ℕ 
   IsDone (Follow following) = (new ≡ old) × HasFollowed from writer0 writer (path_of following.file) following.server following.reach
   IsDone (Wait waiting) = (new ≡ old) × (writer ≡ writer0)
   IsDone (Import importing) = HasImported g opens refuses closes from old new writer0 writer (path_of importing.file) (path_of importing.database)
-  IsDone (Impact rehearsing) = IsFoundOf g opens refuses closes from old new rehearsing.source (IsRehearsed (Gives (after (rest_by rehearsing.source) from) (path_of rehearsing.file)) writer0 writer rehearsing DONE)
-  IsDone (Assert asserting) = IsFoundOf g opens refuses closes from old new asserting.source (IsAsserted (Gives (after (rest_by asserting.source) from) (path_of asserting.file)) writer0 writer asserting DONE)
-  IsDone (Unused source) = IsFoundOf g opens refuses closes from old new source (IsSearched writer0 writer DONE)
+  IsDone (Impact rehearsing) = IsFoundOf g opens refuses closes from old new rehearsing.source DONE (IsRehearsed (Gives (after (rest_by rehearsing.source) from) (path_of rehearsing.file)) writer0 writer rehearsing DONE)
+  IsDone (Assert asserting) = IsFoundOf g opens refuses closes from old new asserting.source DONE (IsAsserted (Gives (after (rest_by asserting.source) from) (path_of asserting.file)) writer0 writer asserting DONE)
+  IsDone (Unused source) = IsFoundOf g opens refuses closes from old new source DONE (IsSearched writer0 writer DONE)
   IsDone (Apply applying) = HasApplied g opens refuses closes from old new writer0 writer applying
   IsDone (Status inspecting) = new ≡ old
 
   -- what status 1 says of a question about all packets
   abbrev pub IsFound : Asked → Type 0
-  IsFound (Impact rehearsing) = IsFoundOf g opens refuses closes from old new rehearsing.source (IsRehearsed (Gives (after (rest_by rehearsing.source) from) (path_of rehearsing.file)) writer0 writer rehearsing REFUSED)
-  IsFound (Assert asserting) = IsFoundOf g opens refuses closes from old new asserting.source (IsAsserted (Gives (after (rest_by asserting.source) from) (path_of asserting.file)) writer0 writer asserting REFUSED)
-  IsFound (Unused source) = IsFoundOf g opens refuses closes from old new source (IsSearched writer0 writer REFUSED)
+  IsFound (Impact rehearsing) = IsFoundOf g opens refuses closes from old new rehearsing.source REFUSED (IsRehearsed (Gives (after (rest_by rehearsing.source) from) (path_of rehearsing.file)) writer0 writer rehearsing REFUSED)
+  IsFound (Assert asserting) = IsFoundOf g opens refuses closes from old new asserting.source REFUSED (IsAsserted (Gives (after (rest_by asserting.source) from) (path_of asserting.file)) writer0 writer asserting REFUSED)
+  IsFound (Unused source) = IsFoundOf g opens refuses closes from old new source REFUSED (IsSearched writer0 writer REFUSED)
   IsFound asked = Unit {0}
 
   -- and what is left in any case

@@ -2,6 +2,10 @@
 use Rattle.std.specs.Prelude.{◌≡◌, ℕ, List, [], ◌++◌, IfSome, Option, None, Some, codes, option_map}
 use Rattle.std.specs.Borrow.{Bor}
 use Rattle.prt_addr.specs.Word.{Word}
+use Rattle.prt_ask.specs.Fed.{AreRead}
+use Rattle.prt_ask.specs.Mirrors.{AreNumbered, commands_of}
+use Rattle.prt_command.specs.declared.request.Command.{Command}
+use Rattle.prt_feed.specs.declared.change.Change.{Change}
 use Rattle.prt_feed.specs.Numbered.{numbered_from}
 use Rattle.prt_feed.specs.Reading.{IsOpening}
 use Rattle.prt_feed.specs.declared.opening.Opening.{Opening}
@@ -56,6 +60,15 @@ module _ {N Stream : Type 0} (reaches : N → ServerPlace → Socket → List �
     pub read : IsOpening (said stream) rest opening
     pub spelled : RowsSpell opening.number (numbered_from 1 opening.version.rules) opening.version.routes told
 
+  -- And after these tables it reported changes in turn, each with its number: these are their commands.
+  pub record AreFed (told : State) (commands : List Command) : Type 0 where
+    pub tables : AreTold told
+    pub changes : List Change
+    pub left : Option (List ℕ)
+    pub read : AreRead tables.rest left changes
+    pub numbered : AreNumbered told.count changes
+    pub are : commands ≡ commands_of changes
+
   -- all that it sent over a connection, over which it was sent a line, is this reply
   abbrev pub IsReply : (line reply : List ℕ) → Type 0
   IsReply line reply = (socket : Socket) × (stream : Stream) × reaches net place socket (line ++ codes "\n") stream × IfSome (said stream) (λ all. reply ≡ all)
@@ -74,13 +87,15 @@ pub record Sources : Type 1 where
   pub input : Option (List ℕ)
   -- a server at this place told these tables
   pub tells : ServerPlace → State → Type 0
+  -- and then the changes of these commands
+  pub feeds : ServerPlace → State → List Command → Type 0
   -- and replied this to a line
   pub replies : ServerPlace → List ℕ → List ℕ → Type 0
   -- and this to an atomic script
   pub submits : ServerPlace → List ℕ → List ℕ → Type 0
 
 abbrev pub sources_of : {F File N Stream : Type 0} → (F → List ℕ → File → Type 0) → (File → Option (List ℕ)) → F → (N → ServerPlace → Socket → List ℕ → Stream → Type 0) → (Stream → Option (List ℕ)) → N → Option (List ℕ) → Sources
-sources_of opens bytes files reaches said net input = record { files = IsFileOf opens bytes files; input = input; tells = AreTold reaches said net; replies = IsReply reaches said net; submits = IsAtomicReply reaches said net }
+sources_of opens bytes files reaches said net input = record { files = IsFileOf opens bytes files; input = input; tells = AreTold reaches said net; feeds = AreFed reaches said net; replies = IsReply reaches said net; submits = IsAtomicReply reaches said net }
 
 -- a text of a file, or of the input
 abbrev pub Gives : Sources → Option Word → List ℕ → Type 0

@@ -1,5 +1,5 @@
 -- What comes of a script whose commands a server is to make together.
-use Rattle.std.specs.Prelude.{◌≡◌, ◌≢◌, ◌⊎◌, ℕ, Bool, false, List, [], ◌∷◌, ◌++◌, codes, decimal, find, length, Option, None, Some}
+use Rattle.std.specs.Prelude.{◌≡◌, ◌≢◌, ◌⊎◌, ◌+◌, ℕ, Bool, false, List, [], ◌∷◌, ◌++◌, codes, decimal, find, flat_map, length, Option, None, Some}
 use Rattle.std.specs.Io.KnownBytes.{Appends}
 use Rattle.prt_addr.specs.Word.{Word}
 use Rattle.prt_command.specs.declared.request.Command.{Command}
@@ -26,6 +26,23 @@ use Rattle.prt_questions.specs.Sources.{Gives, Sources}
 -- how many commands come, and a line for each
 abbrev pub submission_text : List Command → List ℕ
 submission_text commands = codes "commands " ++ decimal (length commands) ++ codes "\n" ++ commands_text commands
+
+-- the same, for the tables of a number alone
+abbrev pub change_text : ℕ → List Command → List ℕ
+change_text number commands = codes "at " ++ decimal number ++ codes "\n" ++ submission_text commands
+
+-- a server made commands together over its tables of a number: it replied `ok` with each number after that
+abbrev pub AreMade : (replies : List ℕ → List ℕ → Type 0) → ℕ → List Command → Type 0
+AreMade replies number commands = replies (change_text number commands) (replies_text (accepted_after number (length commands)))
+
+-- and the next ones over what those had left
+abbrev pub AreAllMade : (replies : List ℕ → List ℕ → Type 0) → ℕ → List (List Command) → Type 0
+AreAllMade replies number [] = Unit {0}
+AreAllMade replies number (part ∷ parts) = AreMade replies number part × AreAllMade replies (number + length part) parts
+
+-- commands were made in parts, one after the other
+abbrev pub AreMadeInParts : (replies : List ℕ → List ℕ → Type 0) → ℕ → List Command → Type 0
+AreMadeInParts replies number commands = (parts : List (List Command)) × (flat_map (λ part. part) parts ≡ commands) × AreAllMade replies number parts
 
 -- `ok N` for each of as many commands, with numbers that rise by one; or a refusal alone
 abbrev pub IsVerdictOf : ℕ → Option Refusal → List Reply → Type 0

@@ -14,9 +14,13 @@ use Rattle.prt_questions.specs.declared.local.Socket.{Socket}
 use Rattle.prt_questions.specs.declared.remote.Told.{Told}
 use Rattle.prt_questions.specs.declared.remote.Told.TheVariants.{Reply, Tables}
 
--- these bytes of a feed begin with these tables
+-- these bytes of a feed begin with these tables, and the rest comes after them
+abbrev pub IsFeedBefore : (bytes rest : Option (List ℕ)) → State → Type 0
+IsFeedBefore bytes rest told = (opening : Opening) × IsOpening bytes rest opening × RowsSpell opening.number (numbered_from 1 opening.version.rules) opening.version.routes told
+
+-- they begin with these tables
 abbrev pub IsFeedOf : Option (List ℕ) → State → Type 0
-IsFeedOf bytes told = (rest : Option (List ℕ)) × (opening : Opening) × IsOpening bytes rest opening × RowsSpell opening.number (numbered_from 1 opening.version.rules) opening.version.routes told
+IsFeedOf bytes told = (rest : Option (List ℕ)) × IsFeedBefore bytes rest told
 
 -- these tables were told, or this was replied
 abbrev pub TellsOrReplies : (tells : State → Type 0) → (replies : List ℕ → Type 0) → Told → Type 0

@@ -1,18 +1,19 @@
 //! Tables of a server that are made what a script makes of a new database.
-ghost use Rattle.std.specs.Prelude.{◌≡◌, ◌⊎◌};
-ghost use Rattle.prt_questions.specs.Applying.{IsPrinted, IsPrintedAtMost};
-ghost use Rattle.prt_questions.specs.Sources.{AreTold};
+ghost use Rattle.std.specs.Prelude.{◌≡◌, ◌⊎◌, IfOk};
+ghost use Rattle.prt_questions.specs.Applying.{AreMadeBy, IsPrinted, IsPrintedAtMost};
+ghost use Rattle.prt_questions.specs.Sources.{AreTold, IsAtomicReply};
+ghost use Rattle.prt_questions.specs.Submitting.{AreMadeInParts};
 ghost use Rattle.prt_questions.specs.Tried.{IsTriedFor, IsTriedWith};
 ghost use Rattle.prt_version.specs.State.{State};
 
 use crate::applying::Manner;
 use crate::asking::write_text;
+use crate::atomic::{Made, expect_atomic, send_changes};
 use crate::local::LocalNet;
 use crate::planning::{Planned, plan_changes, report_unplanned};
-use crate::remote::{Made, NotTold, expect_atomic, read_tables, send_changes};
+use crate::remote::{NotTold, read_tables};
 use crate::telling::tell;
 use prt_command::Command;
-use prt_diff::commands_text;
 use prt_program::cause_message;
 use prt_session::MOST_TOGETHER;
 use prt_version::Version;
@@ -23,36 +24,42 @@ use std::io::Write;
 /// How often changes are worked out, if others change the tables meanwhile.
 const TRIES: usize = 3;
 
-/// Has a server make changes over the tables of this number, so many together at most.
+/// Why nothing is sent to a server if the words don't say where it takes changes.
+const NO_PLACE: &str = "no place is named where the server takes atomic scripts";
+
+/// Has a server make changes over its tables of this number, so many together at most. `done` counts those that it made.
 ///
 /// # Errors
 ///
-/// What befell the connection, or what the server said. Those that were sent before are made. Nothing is sent to what takes no
-/// atomic scripts.
+/// Why the connection failed, or what the server said. Nothing is sent to what takes no atomic scripts.
 fn send<N: LocalNet>(
     rt: &N,
     alloc: Global,
-    atomic: &ServerPlace<'_>,
+    place: &ServerPlace<'_>,
     number: u64,
     commands: &[Command],
-) -> Result<Made, NotTold> {
+    done: &mut usize,
+) -> Result<Made, NotTold>
+    ensures { IfOk result (λ made. made ≡ Made.All → AreMadeInParts (IsAtomicReply N.reaches N.Stream.remaining rt.now place.now) number commands.now) }
+{
     if commands.is_empty() {
         return Ok(Made::All);
     }
     // A session would make the lines one by one. The name of a socket leaves no doubt.
-    if let ServerPlace::Address(_) = atomic {
-        expect_atomic(rt, alloc, atomic)?;
+    if let ServerPlace::Address(_) = place {
+        expect_atomic(rt, alloc, place)?;
     }
     let mut sent = number;
-    for part in commands.chunks(MOST_TOGETHER) {
-        let Ok(lines) = commands_text(alloc, part) else {
-            return Err(NotTold::NoAnswer);
-        };
-        match send_changes(rt, alloc, atomic, sent, part.len(), &lines)? {
+    let mut rest = commands;
+    'parts: while !rest.is_empty() {
+        let (part, later) = rest.split_at(usize::min(MOST_TOGETHER, rest.len()));
+        match send_changes(rt, alloc, place, sent, part)? {
             Made::All => {}
             Made::Moved => return Ok(Made::Moved),
         }
-        sent = sent.saturating_add(part.len() as u64);
+        sent += part.len() as u64;
+        *done = done.saturating_add(part.len());
+        rest = later;
     }
     Ok(Made::All)
 }
@@ -68,26 +75,37 @@ enum Tried {
     Failed(u8),
 }
 
-/// Has a server make changes that were planned over its tables of this number, if it is told where it takes them.
+/// Reports how many changes a server made before it made no more, if it made any.
+fn tell_made<E: Write>(alloc: Global, place: &ServerPlace<'_>, made: usize, errors: &mut E) {
+    if made > 0 {
+        let message = format!(in alloc; "prt: {place}: the first {made} changes are made\n");
+        tell(message, errors);
+    }
+}
+
+/// Has a server make changes that were planned over its tables of this number. If it doesn't make all of them, it is reported
+/// how many it made.
 fn have_made<N: LocalNet, E: Write>(
     rt: &N,
     alloc: Global,
-    atomic: Option<ServerPlace<'_>>,
+    place: &ServerPlace<'_>,
     number: u64,
     planned: Planned,
     errors: &mut E,
 ) -> Tried
-    ensures { IsTriedWith planned.text.items result }
+    ensures { IsTriedWith (AreMadeInParts (IsAtomicReply N.reaches N.Stream.remaining rt.now place.now) number planned.commands.items) planned.text.items result }
 {
     let Planned { commands, text } = planned;
-    let Some(atomic) = atomic else {
-        return Tried::Text(text);
-    };
-    match send(rt, alloc, &atomic, number, commands.as_slice()) {
+    let mut made = 0;
+    match send(rt, alloc, place, number, commands.as_slice(), &mut made) {
         Ok(Made::All) => Tried::Text(text),
-        Ok(Made::Moved) => Tried::Moved,
+        Ok(Made::Moved) => {
+            tell_made(alloc, place, made, errors);
+            Tried::Moved
+        }
         Err(reason) => {
-            tell(cause_message(alloc, &atomic, &reason), errors);
+            tell_made(alloc, place, made, errors);
+            tell(cause_message(alloc, place, &reason), errors);
             Tried::Failed(FAULT)
         }
     }
@@ -103,7 +121,7 @@ fn try_once<N: LocalNet, W: Write, E: Write>(
     output: &mut W,
     errors: &mut E,
 ) -> Tried
-    ensures text { IsTriedFor (AreTold N.reaches N.Stream.remaining rt.now ends.now.feed) manner.shows_impact wanted.now result }
+    ensures text { IsTriedFor (AreTold N.reaches N.Stream.remaining rt.now ends.now.feed) (λ told. AreMadeBy (IsAtomicReply N.reaches N.Stream.remaining rt.now) ends.now.atomic manner.is_dry_run told wanted.now) manner.shows_impact wanted.now result }
     ensures unwritten { W.contents output.new ≡ W.contents output.old }
 {
     let found = match read_tables(rt, alloc, &ends.feed) {
@@ -113,11 +131,20 @@ fn try_once<N: LocalNet, W: Write, E: Write>(
             return Tried::Failed(FAULT);
         }
     };
-    let atomic = if manner.is_dry_run { None } else { ends.atomic };
-    match plan_changes(alloc, &found, wanted, manner.shows_impact) {
-        Ok(planned) => have_made(rt, alloc, atomic, found.number(), planned, errors),
+    let planned = match plan_changes(alloc, &found, wanted, manner.shows_impact) {
+        Ok(planned) => planned,
         Err(reason) => {
-            Tried::Failed(report_unplanned(alloc, &ends.feed, reason, output, errors))
+            return Tried::Failed(report_unplanned(alloc, &ends.feed, reason, output, errors));
+        }
+    };
+    if manner.is_dry_run {
+        return Tried::Text(planned.text);
+    }
+    match &ends.atomic {
+        Some(place) => have_made(rt, alloc, place, found.number(), planned, errors),
+        None => {
+            tell(cause_message(alloc, &ends.feed, &NO_PLACE), errors);
+            Tried::Failed(FAULT)
         }
     }
 }
@@ -136,7 +163,7 @@ pub(crate) fn apply_to_server<N: LocalNet, W: Write, E: Write>(
     errors: &mut E,
 ) -> u8
     ensures status { (result ≡ DONE) ⊎ (result ≡ FAULT) }
-    ensures whole { result ≡ DONE → (told : State) × AreTold N.reaches N.Stream.remaining rt.now ends.now.feed told × IsPrinted manner.shows_impact told wanted.now (W.contents output.old) (W.contents output.new) }
+    ensures whole { result ≡ DONE → (told : State) × AreTold N.reaches N.Stream.remaining rt.now ends.now.feed told × AreMadeBy (IsAtomicReply N.reaches N.Stream.remaining rt.now) ends.now.atomic manner.is_dry_run told wanted.now × IsPrinted manner.shows_impact told wanted.now (W.contents output.old) (W.contents output.new) }
     ensures part { (W.contents output.new ≡ W.contents output.old) ⊎ ((told : State) × AreTold N.reaches N.Stream.remaining rt.now ends.now.feed told × IsPrintedAtMost manner.shows_impact told wanted.now (W.contents output.old) (W.contents output.new)) }
 {
     for _ in 0..TRIES {

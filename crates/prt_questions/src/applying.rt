@@ -1,11 +1,12 @@
 //! Tables that are made what a script makes of a new database.
 ghost use Rattle.std.specs.Prelude.{◌≡◌, ◌⊎◌, All, IfErr, IfOk, OnOk, false, true};
 ghost use Rattle.prt_apply.specs.Brings.{AreAlike};
+ghost use Rattle.prt_apply.specs.Plan.{plan};
 ghost use Rattle.prt_command.specs.Storable.{IsStorable};
 ghost use Rattle.prt_front.specs.Line.{line_state};
 ghost use Rattle.prt_publisher.specs.Standing.{IsQuiet};
 ghost use Rattle.prt_publisher.specs.declared.phase.Phase.TheVariants.{Ready};
-ghost use Rattle.prt_questions.specs.Applying.{HasApplied, HasAppliedAtMost, IsMadeAt, IsMadeAtMost, IsPrinted, IsPrintedAtMost, IsScript, wanted_by};
+ghost use Rattle.prt_questions.specs.Applying.{AreStoredTogether, HasApplied, HasAppliedAtMost, IsMadeAt, IsMadeAtMost, IsPrinted, IsPrintedAtMost, IsScript, wanted_by};
 ghost use Rattle.prt_questions.specs.Sources.{IsFileOf, IsRead, path_of, sources_of};
 ghost use Rattle.prt_version.specs.Accepted.{IsAccepted};
 ghost use Rattle.prt_version.specs.Change.{fold};
@@ -64,6 +65,7 @@ fn submit<S: Alter + Drop, H: Wait>(
     ensures file { publisher.new.ours_first ≡ publisher.old.ours_first }
     ensures made { OnOk result ((publisher.new.phase ≡ Ready) × IsAccepted (line_state publisher.old.line) commands.now
         × (line_state publisher.new.line ≡ fold (line_state publisher.old.line) commands.now)) }
+    ensures together { OnOk result (AreStoredTogether S.Store publisher.old commands.now publisher.new) }
 {
     if commands.is_empty() {
         return Ok(());
@@ -111,6 +113,7 @@ fn make<S: Alter + Drop, H: Wait, W: Write, E: Write>(
     ensures file { publisher.new.ours_first ≡ publisher.old.ours_first }
     ensures dry { manner.is_dry_run ≡ true → publisher.new ≡ publisher.old }
     ensures made { result ≡ DONE → manner.is_dry_run ≡ false → (publisher.new.phase ≡ Ready) × AreAlike (line_state publisher.new.line) wanted.now }
+    ensures together { result ≡ DONE → manner.is_dry_run ≡ false → AreStoredTogether S.Store publisher.old (plan (line_state publisher.old.line) wanted.now) publisher.new }
     ensures whole { result ≡ DONE → IsPrinted manner.shows_impact (line_state publisher.old.line) wanted.now (W.contents output.old) (W.contents output.new) }
     ensures part { IsPrintedAtMost manner.shows_impact (line_state publisher.old.line) wanted.now (W.contents output.old) (W.contents output.new) }
 {

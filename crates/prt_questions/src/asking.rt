@@ -2,7 +2,7 @@
 ghost use Rattle.std.specs.Prelude.{◌≡◌, ◌⊎◌, IfErr, IfOk, IfSome, List, false, true, ℕ};
 ghost use Rattle.std.specs.Io.KnownBytes.{Appends};
 ghost use Rattle.prt_ask.specs.Answers.{is_whole_change};
-ghost use Rattle.prt_questions.specs.Asking.{AreKernels, HasAnswered, HasAnsweredAtMost, IsAnswered, IsAnsweredAtMost, IsAskedAt, IsCutOff, IsNotOpened, IsReplied, IsRepliedAtMost, IsTold, called, said};
+ghost use Rattle.prt_questions.specs.Asking.{AreKernels, HasAnswered, HasAnsweredAtMost, IsAnswered, IsAnsweredAtMost, IsAskedAt, IsCutOff, IsNotOpened, IsQuery, IsReplied, IsRepliedAtMost, IsTold, called, said};
 ghost use Rattle.prt_import.specs.Accepted.{IsExecuted};
 ghost use Rattle.prt_import.specs.TableNames.{names_of};
 ghost use Rattle.prt_questions.specs.Sources.{AreTold, IsFileOf, IsRead, IsReply, path_of, sources_of};
@@ -22,7 +22,7 @@ use crate::remote::{Told, ask_line, read_tables};
 use crate::telling::tell;
 use prt_ask::{Answered, NotAnswered, Question, question_of};
 use prt_import::{Accepted, accept};
-use prt_program::{ReadFiles, cause_message, question_message};
+use prt_program::{ReadFiles, Refusal, cause_message, question_message};
 use prt_replies::{Reply, Text, write_reply};
 use prt_words::{Asking, DONE, FAULT, Form, STANDARD_INPUT, ServerPlace, Source};
 use sqlite::{Alter, Connection};
@@ -35,6 +35,10 @@ use std::sync::Wait;
 /// anything differs.
 pub const REFUSED: u8 = 1;
 
+/// What is reported of a script that looks like a listing.
+const LISTING: &[u8] =
+    b"prt: this is what `ip` prints, and no script: run `prt import` over it first\n";
+
 /// Makes the message of a row of listings that no line can express.
 fn row_message<P: Display>(
     alloc: Global,
@@ -46,7 +50,7 @@ fn row_message<P: Display>(
     format!(in alloc; "prt: {place}: line {row} of `{listing}`: no command can give it this name\n")
 }
 
-/// Makes the message of why there is no answer, if it isn't for want of memory.
+/// Makes the message of why there is no answer.
 pub(crate) fn none_message<P: Display>(
     alloc: Global,
     place: &P,
@@ -59,8 +63,12 @@ pub(crate) fn none_message<P: Display>(
             format!(in alloc; "prt: {place}: a change is refused over the listing: {refusal}\n")
         }
         NotAnswered::Gap => format!(in alloc; "prt: {place}: the feed left a change out\n"),
-        NotAnswered::Change | NotAnswered::NoMemory => {
+        NotAnswered::Change => {
             format!(in alloc; "prt: {place}: a change has a name that no command can give\n")
+        }
+        NotAnswered::NoMemory => {
+            let refusal = Refusal::NoMemory;
+            format!(in alloc; "prt: {place}: {refusal}\n")
         }
     }
 }
@@ -234,7 +242,7 @@ fn ask_session<N: LocalNet, W: Write, E: Write>(
 
 /// Finds the server that is queried by a line: its session or its feed.
 fn session_of<'a>(source: &Source<'a>, question: &Question<'_>) -> Option<ServerPlace<'a>>
-    ensures { IfSome result (λ place. source.now ≡ Server place) }
+    ensures { IfSome result (λ place. (source.now ≡ Server place) × IsQuery question.now) }
 {
     match (source, question) {
         (Source::Server(place), Question::Query(_, Form::Lines)) => Some(*place),
@@ -242,7 +250,17 @@ fn session_of<'a>(source: &Source<'a>, question: &Question<'_>) -> Option<Server
     }
 }
 
-/// Executes a script over a new database, and leaves out each line that is refused.
+/// Checks whether a script begins as what `ip` prints does, and none of its lines was accepted.
+fn is_listing(script: &[u8], made: &Accepted) -> bool {
+    let begins = match script.first() {
+        Some(first) => first.is_ascii_digit() || script.starts_with(b"default "),
+        None => false,
+    };
+    begins && made.script.is_empty()
+}
+
+/// Executes a script over a new database, and leaves out each line that is refused. If all are, and it looks like a listing,
+/// that is reported.
 ///
 /// # Errors
 ///
@@ -258,7 +276,12 @@ pub(crate) fn run_over_new<W: Write, E: Write>(
     ensures unwritten { W.contents output.new ≡ W.contents output.old }
 {
     match accept(alloc, script) {
-        Ok(accepted) => Ok(accepted),
+        Ok(accepted) => {
+            if is_listing(script, &accepted) {
+                let _ = errors.write_all(LISTING);
+            }
+            Ok(accepted)
+        }
         Err(_) => Err(report_no_memory(output, errors)),
     }
 }
@@ -355,9 +378,9 @@ fn ask_tables<
 ) -> u8
     ensures status { (result ≡ DONE) ⊎ ((result ≡ REFUSED) ⊎ (result ≡ FAULT)) }
     ensures whole { result ≡ DONE → IsAnswered S.Store M.opens M.refuses M.closes (sources_of F.opens F.Opened.remaining databases.old.files.now N.reaches N.Stream.remaining databases.old.rt (R.remaining input.old)) databases.old.machine databases.new.machine (W.contents output.old) (W.contents output.new) asking.now.source (said inquiry.now)
-        ⊎ IsReplied S.Store M.opens M.refuses M.closes (sources_of F.opens F.Opened.remaining databases.old.files.now N.reaches N.Stream.remaining databases.old.rt (R.remaining input.old)) databases.old.machine databases.new.machine (W.contents output.old) (W.contents output.new) asking.now.source asking.now.line.items (called inquiry.now.labels inquiry.now.form (names_of inquiry.now.names.now)) }
+        ⊎ (IsQuery inquiry.now.question × IsReplied S.Store M.opens M.refuses M.closes (sources_of F.opens F.Opened.remaining databases.old.files.now N.reaches N.Stream.remaining databases.old.rt (R.remaining input.old)) databases.old.machine databases.new.machine (W.contents output.old) (W.contents output.new) asking.now.source asking.now.line.items (called inquiry.now.labels inquiry.now.form (names_of inquiry.now.names.now))) }
     ensures at_most { IsAnsweredAtMost S.Store M.opens M.refuses M.closes (sources_of F.opens F.Opened.remaining databases.old.files.now N.reaches N.Stream.remaining databases.old.rt (R.remaining input.old)) databases.old.machine databases.new.machine (W.contents output.old) (W.contents output.new) asking.now.source (said inquiry.now)
-        ⊎ IsRepliedAtMost S.Store M.opens M.refuses M.closes (sources_of F.opens F.Opened.remaining databases.old.files.now N.reaches N.Stream.remaining databases.old.rt (R.remaining input.old)) databases.old.machine databases.new.machine (W.contents output.old) (W.contents output.new) asking.now.source asking.now.line.items (called inquiry.now.labels inquiry.now.form (names_of inquiry.now.names.now)) }
+        ⊎ (IsQuery inquiry.now.question × IsRepliedAtMost S.Store M.opens M.refuses M.closes (sources_of F.opens F.Opened.remaining databases.old.files.now N.reaches N.Stream.remaining databases.old.rt (R.remaining input.old)) databases.old.machine databases.new.machine (W.contents output.old) (W.contents output.new) asking.now.source asking.now.line.items (called inquiry.now.labels inquiry.now.form (names_of inquiry.now.names.now))) }
 {
     let (source, rt) = (&asking.source, databases.rt);
     match session_of(source, &inquiry.question) {

@@ -140,6 +140,7 @@ fn write_breaches<W: Write, E: Write>(
     ensures status { (result ≡ DONE) ⊎ ((result ≡ REFUSED) ⊎ (result ≡ FAULT)) }
     ensures whole { (result ≡ DONE) ⊎ (result ≡ REFUSED) → Appends (W.contents output.old) (W.contents output.new) (breaches_text is_explained tables.now.version checked.now.breaches.items) }
     ensures hold { result ≡ DONE → checked.now.breaches.items ≡ [] }
+    ensures left { result ≡ DONE → tables.now.left ≡ DONE }
     ensures part { IsCutOff (breaches_text is_explained tables.now.version checked.now.breaches.items) (W.contents output.old) (W.contents output.new) }
 {
     let Ok(shown) = text_of(alloc, &tables.version, is_explained, &checked.breaches) else {
@@ -167,6 +168,7 @@ fn assert_over<F: ReadFiles, R: Read, W: Write, E: Write>(
     ensures status { (result ≡ DONE) ⊎ ((result ≡ REFUSED) ⊎ ((result ≡ UNREADABLE) ⊎ (result ≡ FAULT))) }
     ensures found { (result ≡ DONE) ⊎ (result ≡ REFUSED) → IsAsserted (IsRead (IsFileOf F.opens F.Opened.remaining files.now) (R.remaining input.old) (path_of asserting.now.file)) (W.contents output.old) (W.contents output.new) asserting.now result tables.now.version }
     ensures at_most { IsAssertedAtMost (IsRead (IsFileOf F.opens F.Opened.remaining files.now) (R.remaining input.old) (path_of asserting.now.file)) (W.contents output.old) (W.contents output.new) asserting.now tables.now.version }
+    ensures left { result ≡ DONE → tables.now.left ≡ DONE }
 {
     let text = match read_whole(files, alloc, asserting.file, input, output, errors) {
         Ok(text) => text,
@@ -213,7 +215,7 @@ pub(crate) fn assert_claims<
     errors: &mut E,
 ) -> u8
     ensures status { (result ≡ DONE) ⊎ ((result ≡ REFUSED) ⊎ ((result ≡ UNREADABLE) ⊎ (result ≡ FAULT))) }
-    ensures found { (result ≡ DONE) ⊎ (result ≡ REFUSED) → IsFoundOf S.Store M.opens M.refuses M.closes (sources_of F.opens F.Opened.remaining databases.old.files.now N.reaches N.Stream.remaining databases.old.rt (R.remaining input.old)) databases.old.machine databases.new.machine asserting.now.source (IsAsserted (Gives (after (rest_by asserting.now.source) (sources_of F.opens F.Opened.remaining databases.old.files.now N.reaches N.Stream.remaining databases.old.rt (R.remaining input.old))) (path_of asserting.now.file)) (W.contents output.old) (W.contents output.new) asserting.now result) }
+    ensures found { (result ≡ DONE) ⊎ (result ≡ REFUSED) → IsFoundOf S.Store M.opens M.refuses M.closes (sources_of F.opens F.Opened.remaining databases.old.files.now N.reaches N.Stream.remaining databases.old.rt (R.remaining input.old)) databases.old.machine databases.new.machine asserting.now.source result (IsAsserted (Gives (after (rest_by asserting.now.source) (sources_of F.opens F.Opened.remaining databases.old.files.now N.reaches N.Stream.remaining databases.old.rt (R.remaining input.old))) (path_of asserting.now.file)) (W.contents output.old) (W.contents output.new) asserting.now result) }
     ensures at_most { IsFoundAtMost S.Store M.opens M.refuses M.closes (sources_of F.opens F.Opened.remaining databases.old.files.now N.reaches N.Stream.remaining databases.old.rt (R.remaining input.old)) databases.old.machine databases.new.machine (W.contents output.old) (W.contents output.new) asserting.now.source (IsAssertedAtMost (Gives (after (rest_by asserting.now.source) (sources_of F.opens F.Opened.remaining databases.old.files.now N.reaches N.Stream.remaining databases.old.rt (R.remaining input.old))) (path_of asserting.now.file)) (W.contents output.old) (W.contents output.new) asserting.now) }
 {
     let (files, source) = (databases.files, &asserting.source);

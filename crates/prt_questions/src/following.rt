@@ -1,7 +1,10 @@
 //! A kernel that follows a server, and the wait for a server.
-ghost use Rattle.std.specs.Prelude.{◌≡◌, ◌⊎◌, Bool, IfErr, IfOk};
+ghost use Rattle.std.specs.Prelude.{◌≡◌, ◌⊎◌, Bool, IfErr, IfOk, List, Option, ℕ};
+ghost use Rattle.std.specs.Io.Buffered.{reader_remaining};
+ghost use Rattle.prt_ask.specs.Fed.{AreRead};
 ghost use Rattle.prt_ask.specs.Mirrors.{Follows, mirror_of};
 ghost use Rattle.prt_diff.specs.Text.{changes_text};
+ghost use Rattle.prt_feed.specs.declared.change.Change.{Change};
 ghost use Rattle.prt_questions.specs.Asking.{HasFollowed, HasFollowedAtMost};
 ghost use Rattle.prt_questions.specs.Sources.{AreTold, path_of, sources_of};
 ghost use Rattle.prt_version.specs.State.{State};
@@ -22,6 +25,9 @@ use std::rt::Clock;
 use std::thread;
 use std::time::Duration;
 
+/// Why nothing more is followed if the feed ended, or a read of it failed.
+const FEED_ENDED: &str = "the feed ended, or nothing came for 45 seconds";
+
 /// How many milliseconds lie between two tries to reach a server.
 const PAUSE: u64 = 100;
 
@@ -29,7 +35,7 @@ const PAUSE: u64 = 100;
 fn tell_end<E: Write>(alloc: Global, place: &ServerPlace<'_>, end: FollowEnd, errors: &mut E) {
     match end {
         FollowEnd::Feed(NotRead::CutOff) => {
-            tell(cause_message(alloc, place, &"the feed ended"), errors);
+            tell(cause_message(alloc, place, &FEED_ENDED), errors);
         }
         FollowEnd::Feed(reason) => tell(cause_message(alloc, place, &reason), errors),
         FollowEnd::NoLines(reason) => tell(none_message(alloc, place, reason), errors),
@@ -50,7 +56,7 @@ fn begin_at<N: LocalNet, W: Write, E: Write>(
     output: &mut W,
     errors: &mut E,
 ) -> Result<(BufReader<N::Stream>, Mirror, Answered), u8>
-    ensures begun { IfOk result (λ begun. (told : State) × AreTold N.reaches N.Stream.remaining rt.now place.now told × (begun.1 ≡ mirror_of listing.fence listing.found told) × (begun.2.text.items ≡ changes_text listing.fence listing.found told)) }
+    ensures begun { IfOk result (λ begun. (told : State) × (is : AreTold N.reaches N.Stream.remaining rt.now place.now told) × (reader_remaining N.Stream.remaining begun.0 ≡ is.rest) × (begun.1 ≡ mirror_of listing.fence listing.found told) × (begun.2.text.items ≡ changes_text listing.fence listing.found told)) }
     ensures fault { IfErr result (λ status. (status ≡ REFUSED) ⊎ (status ≡ FAULT)) }
     ensures unwritten { W.contents output.new ≡ W.contents output.old }
 {
@@ -86,7 +92,7 @@ fn follow_on<R: Read + Drop, W: Write, E: Write>(
     errors: &mut E,
 ) -> u8
     ensures status { result ≡ FAULT }
-    ensures follows { (after : Mirror) × (is_whole : Bool) × Follows mirror after is_whole (W.contents output.old) (W.contents output.new) }
+    ensures follows { (after : Mirror) × (is_whole : Bool) × (changes : List Change) × (read : Option (List ℕ)) × AreRead (R.remaining reader) read changes × Follows mirror after changes is_whole (W.contents output.old) (W.contents output.new) }
 {
     let end = follow(alloc, &mut mirror, &mut reader, told, output, errors);
     tell_end(alloc, place, end, errors);

@@ -1,5 +1,5 @@
 //! Which packets a script sends another way.
-ghost use Rattle.std.specs.Prelude.{◌≡◌, ◌≢◌, ◌⊎◌, IfOk, List, [], true};
+ghost use Rattle.std.specs.Prelude.{◌≡◌, ◌≢◌, ◌⊎◌, IfOk, List, [], false, true};
 ghost use Rattle.prt_refusals.specs.declared.on_refusal.OnRefusal.TheVariants.{Stop};
 ghost use Rattle.prt_impact.specs.Groups.{AreGroups};
 ghost use Rattle.prt_impact.specs.declared.group.Group.{Group as GroupOf};
@@ -105,7 +105,8 @@ fn write_impact<W: Write, E: Write>(
 
 /// Checks whether refused lines stop a rehearsal.
 fn is_stopped(left: u8, on_refusal: OnRefusal) -> bool
-    ensures { result ≡ true → (left ≢ DONE) × (on_refusal ≡ Stop) }
+    ensures stops { result ≡ true → (left ≢ DONE) × (on_refusal ≡ Stop) }
+    ensures goes_on { result ≡ false → on_refusal ≡ Stop → left ≡ DONE }
 {
     left != DONE && matches!(on_refusal, OnRefusal::Stop)
 }
@@ -125,6 +126,7 @@ fn rehearse_over<F: ReadFiles, R: Read, W: Write, E: Write>(
     ensures status { (result ≡ DONE) ⊎ ((result ≡ REFUSED) ⊎ (result ≡ FAULT)) }
     ensures found { (result ≡ DONE) ⊎ (result ≡ REFUSED) → IsRehearsed (IsRead (IsFileOf F.opens F.Opened.remaining files.now) (R.remaining input.old) (path_of rehearsing.now.file)) (W.contents output.old) (W.contents output.new) rehearsing.now result tables.now.version }
     ensures at_most { IsRehearsedAtMost (IsRead (IsFileOf F.opens F.Opened.remaining files.now) (R.remaining input.old) (path_of rehearsing.now.file)) (W.contents output.old) (W.contents output.new) rehearsing.now tables.now.version }
+    ensures left { result ≡ DONE → tables.now.left ≡ DONE }
 {
     let script = match read_whole(files, alloc, rehearsing.file, input, output, errors) {
         Ok(script) => script,
@@ -164,7 +166,7 @@ pub(crate) fn rehearse<
     errors: &mut E,
 ) -> u8
     ensures status { (result ≡ DONE) ⊎ ((result ≡ REFUSED) ⊎ (result ≡ FAULT)) }
-    ensures found { (result ≡ DONE) ⊎ (result ≡ REFUSED) → IsFoundOf S.Store M.opens M.refuses M.closes (sources_of F.opens F.Opened.remaining databases.old.files.now N.reaches N.Stream.remaining databases.old.rt (R.remaining input.old)) databases.old.machine databases.new.machine rehearsing.now.source (IsRehearsed (Gives (after (rest_by rehearsing.now.source) (sources_of F.opens F.Opened.remaining databases.old.files.now N.reaches N.Stream.remaining databases.old.rt (R.remaining input.old))) (path_of rehearsing.now.file)) (W.contents output.old) (W.contents output.new) rehearsing.now result) }
+    ensures found { (result ≡ DONE) ⊎ (result ≡ REFUSED) → IsFoundOf S.Store M.opens M.refuses M.closes (sources_of F.opens F.Opened.remaining databases.old.files.now N.reaches N.Stream.remaining databases.old.rt (R.remaining input.old)) databases.old.machine databases.new.machine rehearsing.now.source result (IsRehearsed (Gives (after (rest_by rehearsing.now.source) (sources_of F.opens F.Opened.remaining databases.old.files.now N.reaches N.Stream.remaining databases.old.rt (R.remaining input.old))) (path_of rehearsing.now.file)) (W.contents output.old) (W.contents output.new) rehearsing.now result) }
     ensures at_most { IsFoundAtMost S.Store M.opens M.refuses M.closes (sources_of F.opens F.Opened.remaining databases.old.files.now N.reaches N.Stream.remaining databases.old.rt (R.remaining input.old)) databases.old.machine databases.new.machine (W.contents output.old) (W.contents output.new) rehearsing.now.source (IsRehearsedAtMost (Gives (after (rest_by rehearsing.now.source) (sources_of F.opens F.Opened.remaining databases.old.files.now N.reaches N.Stream.remaining databases.old.rt (R.remaining input.old))) (path_of rehearsing.now.file)) (W.contents output.old) (W.contents output.new) rehearsing.now) }
 {
     let (files, source) = (databases.files, &rehearsing.source);

@@ -30,6 +30,12 @@ use std::alloc::Global;
 use std::io::{Read, Write};
 use std::sync::Wait;
 
+/// The escape character, which no line of `ip` has unless it prints colours.
+const ESCAPE: u8 = 27;
+
+/// Why a listing with colours isn't read: no word of it would be known.
+const COLOURS: &str = "the listing has colours: take one of `ip -c=never`";
+
 /// Returns the lines of what `ip` printed, also if that is the JSON of `ip -j`.
 fn lines_of(alloc: Global, text: Vec<u8>) -> Result<Vec<u8>, NotListed>
     ensures { IfOk result (λ lines. AreLinesOf text.items lines.items) }
@@ -79,6 +85,11 @@ fn keep_lines<F: ReadFiles, E: Write>(
     Ok((accepted, or_left(left, refused), imported.left))
 }
 
+/// Checks whether `ip` printed lines for a terminal: with an escape character before each change of the colour.
+fn has_colours(lines: &[u8]) -> bool {
+    lines.contains(&ESCAPE)
+}
+
 /// Reads what `ip` printed, of a file or of the input, as `keep_lines` does.
 ///
 /// # Errors
@@ -105,6 +116,9 @@ pub(crate) fn read_listing<F: ReadFiles, R: Read, W: Write, E: Write>(
         Err(NotListed::NoMemory) => return Err(report_no_memory(output, errors)),
         Err(reason) => return Err(report_unread(alloc, file, &reason, output, errors)),
     };
+    if has_colours(&lines) {
+        return Err(report_unread(alloc, file, &COLOURS, output, errors));
+    }
     if let Err(reason) = check_listing(&lines) {
         return Err(report_unread(alloc, file, &reason, output, errors));
     }

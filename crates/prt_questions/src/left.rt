@@ -17,6 +17,9 @@ use std::io::Write;
 /// What a comment begins with that says what was left out of a script.
 const COMMENT: &[u8] = b"# left out:";
 
+/// What such a comment goes on with if it is about those that the kernel makes itself.
+const KERNELS: &[u8] = b"routes that the kernel makes itself";
+
 /// Makes the message of a line that is left out, or of what is left out of one, with the name of its file if it has one.
 fn left_message(alloc: Global, file: Option<&str>, left: &Left) -> Result<String, AllocError> {
     match file {
@@ -91,6 +94,26 @@ fn comment_message(alloc: Global, script: &str, said: &[u8]) -> Result<String, A
     Ok(message)
 }
 
+/// Reports what these comments of a script say that was left out of it, except routes that the kernel makes itself if these are
+/// expected.
+fn tell_comments<E: Write>(
+    alloc: Global,
+    name: &str,
+    comments: &[u8],
+    are_kernels_expected: bool,
+    errors: &mut E,
+) {
+    for comment in comments.split(is_newline) {
+        let Some(said) = comment.strip_prefix(COMMENT) else {
+            continue;
+        };
+        let said = said.trim_ascii();
+        if !(are_kernels_expected && said.starts_with(KERNELS)) {
+            tell(comment_message(alloc, name, said), errors);
+        }
+    }
+}
+
 /// Reports what the comments of a script say that was left out of it when it was made of a listing. Of a packet that is asked
 /// about this is what could have decided on it.
 pub(crate) fn tell_left_out<E: Write>(
@@ -100,12 +123,20 @@ pub(crate) fn tell_left_out<E: Write>(
     question: &Question<'_>,
     errors: &mut E,
 ) {
-    let Ok(comments) = left_out(alloc, script, destination_of(question)) else {
-        return;
-    };
-    for comment in comments.split(is_newline) {
-        if let Some(said) = comment.strip_prefix(COMMENT) {
-            tell(comment_message(alloc, name, said.trim_ascii()), errors);
-        }
+    if let Ok(comments) = left_out(alloc, script, destination_of(question)) {
+        tell_comments(alloc, name, &comments, false, errors);
+    }
+}
+
+/// Reports the same of a script about whose packets all is asked: any of it could decide on one. That the kernel makes some
+/// routes itself isn't news then.
+pub(crate) fn tell_all_left_out<E: Write>(
+    alloc: Global,
+    name: &str,
+    script: &[u8],
+    errors: &mut E,
+) {
+    if let Ok(comments) = left_out(alloc, script, None) {
+        tell_comments(alloc, name, &comments, true, errors);
     }
 }

@@ -5,6 +5,7 @@ mod apply_remote;
 mod applying;
 mod asking;
 mod asserting;
+mod atomic;
 mod cause;
 mod databases;
 mod fencing;

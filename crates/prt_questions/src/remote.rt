@@ -3,11 +3,10 @@ ghost use Rattle.std.specs.Prelude.{◌≡◌, ◌++◌, IfOk, IfSome, codes};
 ghost use Rattle.std.specs.Io.Buffered.{reader_remaining};
 ghost use Rattle.std.specs.Io.KnownBytes.{Keeps};
 ghost use Rattle.prt_questions.specs.Sources.{AreTold};
-ghost use Rattle.prt_questions.specs.Told.{IsFeedOf, IsReached, IsToldBy, IsToldIn};
+ghost use Rattle.prt_questions.specs.Told.{IsFeedBefore, IsReached, IsToldBy, IsToldIn};
 
 use crate::local::{LocalNet, Socket};
 use crate::reading::last_line;
-use itoa::Buffer;
 use prt_feed::{NotRead, read_opening};
 use prt_program::Refusal;
 use prt_version::Version;
@@ -39,15 +38,6 @@ const ANSWER: &[u8] = b"answer ";
 /// What the last line of a whole listing begins with.
 const END: &[u8] = b"end ";
 
-/// An atomic script without commands, for a number that no tables reach.
-const NO_NUMBER: &[u8] = b"at 18446744073709551615\n";
-
-/// What the reply to an atomic script begins with if the tables have another number. That of a session, and a feed, don't.
-const MOVED: &[u8] = b"at ";
-
-/// The first byte of that.
-const MOVED_BYTE: u8 = b'a';
-
 /// Why a server says nothing.
 #[derive(Debug, Drop, Error)]
 pub(crate) enum NotTold {
@@ -57,7 +47,7 @@ pub(crate) enum NotTold {
     Feed(NotRead),
     #[error("{0}")]
     Tables(Refusal),
-    #[error("the session gave no whole answer")]
+    #[error("the answer was cut off")]
     NoAnswer,
     #[error("{0}")]
     Refused(String),
@@ -158,7 +148,7 @@ fn reach_to_ask<N: LocalNet>(
 
 /// Reads the tables that a feed begins with.
 fn read_version<R: Read>(alloc: Global, reader: &mut R) -> Result<Version, NotTold>
-    ensures { IfOk result (IsFeedOf (R.remaining reader.old)) }
+    ensures { IfOk result (IsFeedBefore (R.remaining reader.old) (R.remaining reader.new)) }
 {
     let opening = read_opening(alloc, reader)?;
     Ok(opening.into_version(alloc)?)
@@ -174,7 +164,7 @@ fn read_feed<T: Read + Write + OpenStream>(
     reader: &mut BufReader<T>,
     stream: &mut T,
 ) -> Result<Version, NotTold>
-    ensures { IfOk result (IsFeedOf (reader_remaining T.remaining reader.old)) }
+    ensures { IfOk result (IsFeedBefore (reader_remaining T.remaining reader.old) (reader_remaining T.remaining reader.new)) }
 {
     if !is_feed(reader, stream)? {
         return Err(NotTold::NoFeed);
@@ -195,7 +185,7 @@ pub(crate) fn open_feed<N: LocalNet>(
     alloc: Global,
     place: &ServerPlace<'_>,
 ) -> Result<(BufReader<N::Stream>, Version), NotTold>
-    ensures { IfOk result (λ opened. AreTold N.reaches N.Stream.remaining rt.now place.now opened.1) }
+    ensures { IfOk result (λ opened. (told : AreTold N.reaches N.Stream.remaining rt.now place.now opened.1) × (reader_remaining N.Stream.remaining opened.0 ≡ told.rest)) }
 {
     let patience = Duration::from_secs(PATIENCE);
     let stream = rt.reach(alloc, place, Socket::Feed, patience, &[])?;
@@ -295,139 +285,6 @@ pub(crate) fn ask_line<N: LocalNet>(
     let stream = send_line(rt, alloc, place, line)?;
     let mut reader = BufReader::new(alloc, stream)?;
     read_told(alloc, &mut reader)
-}
-
-/// What a server made of changes.
-#[derive(Clone, Copy)]
-pub(crate) enum Made {
-    /// All of them.
-    All,
-    /// None, since its tables are at another number.
-    Moved,
-}
-
-/// Returns what follows the line at which a reply accepts a command with this number.
-fn after_accepted<'a>(reply: &'a [u8], number: &[u8]) -> Option<&'a [u8]> {
-    let rest = reply.strip_prefix(b"ok ")?;
-    let rest = rest.strip_prefix(number)?;
-    rest.strip_prefix(b"\n")
-}
-
-/// Checks whether a reply accepts as many commands, each with the number after the one before.
-fn accepts_all(reply: &[u8], number: u64, count: usize) -> bool {
-    let mut rest = reply;
-    for done in 1..=count as u64 {
-        let mut digits = Buffer::new();
-        let accepted = digits.format(number.saturating_add(done)).as_bytes();
-        let Some(after) = after_accepted(rest, accepted) else {
-            return false;
-        };
-        rest = after;
-    }
-    rest.is_empty()
-}
-
-/// Asks a server whether it takes atomic scripts at a place: it has none of this number, and says which it has.
-///
-/// # Errors
-///
-/// `NoAtomic` if something else answers, as a session or a feed does, or nothing. Otherwise what befell the connection.
-pub(crate) fn expect_atomic<N: LocalNet>(
-    rt: &N,
-    alloc: Global,
-    place: &ServerPlace<'_>,
-) -> Result<(), NotTold> {
-    let patience = Duration::from_secs(PATIENCE);
-    let mut stream = rt.reach(alloc, place, Socket::Atomic, patience, NO_NUMBER)?;
-    stream.shutdown(Shutdown::Write)?;
-    let mut byte = [0u8; 1];
-    let count = stream.read(&mut byte)?;
-    if count == 1 && byte[0] == MOVED_BYTE {
-        return Ok(());
-    }
-    Err(NotTold::NoAtomic)
-}
-
-/// Connects to the atomic scripts of a server, and sends it over which number so many changes are made.
-fn reach_to_change<N: LocalNet>(
-    rt: &N,
-    alloc: Global,
-    atomic: &ServerPlace<'_>,
-    number: u64,
-    count: usize,
-) -> Result<N::Stream, NotTold> {
-    let patience = Duration::from_secs(PATIENCE);
-    // What is cut off before its last command is not made.
-    let head = format!(in alloc; "at {number}\ncommands {count}\n")?;
-    Ok(rt.reach(alloc, atomic, Socket::Atomic, patience, head.as_bytes())?)
-}
-
-/// Sends lines, and reads all that is replied.
-///
-/// # Errors
-///
-/// `Unknown` if the reply can't be read to its end. Otherwise what befell the connection before.
-fn exchange<T: Read + Write + OpenStream>(
-    alloc: Global,
-    stream: &mut T,
-    lines: &[u8],
-) -> Result<Vec<u8>, NotTold> {
-    stream.write_all(lines)?;
-    stream.shutdown(Shutdown::Write)?;
-    let mut reply = Vec::new(alloc);
-    match stream.read_to_end(&mut reply) {
-        Ok(_) => Ok(reply),
-        Err(_) => Err(NotTold::Unknown),
-    }
-}
-
-/// Finds what a server made of so many changes over its tables at a number by its reply.
-///
-/// # Errors
-///
-/// `Unknown` if the reply doesn't say it, and the server's refusal.
-fn made_by(alloc: Global, reply: &[u8], number: u64, count: usize) -> Result<Made, NotTold> {
-    if accepts_all(reply, number, count) {
-        Ok(Made::All)
-    } else if reply.starts_with(MOVED) {
-        Ok(Made::Moved)
-    } else if reply.starts_with(b"error ") && reply.ends_with(b"\n") {
-        Err(NotTold::Refused(refused_text(alloc, reply)?))
-    } else {
-        Err(NotTold::Unknown)
-    }
-}
-
-/// Sends a server the lines of so many changes over its tables at a number, and reads what it makes of them: all, or none.
-///
-/// # Errors
-///
-/// `Unknown` if its reply is missing or cut off: all of them may be made. Otherwise what befell the connection before, or the
-/// server's refusal: none is made.
-pub(crate) fn send_changes<N: LocalNet>(
-    rt: &N,
-    alloc: Global,
-    atomic: &ServerPlace<'_>,
-    number: u64,
-    count: usize,
-    lines: &[u8],
-) -> Result<Made, NotTold> {
-    let mut stream = reach_to_change(rt, alloc, atomic, number, count)?;
-    let reply = exchange(alloc, &mut stream, lines)?;
-    made_by(alloc, &reply, number, count)
-}
-
-/// Returns the first line of a refusal, as far as it can be printed.
-fn refused_text(alloc: Global, reply: &[u8]) -> Result<String, AllocError> {
-    let mut text = String::new(alloc);
-    for byte in reply {
-        if *byte == b'\n' {
-            break;
-        }
-        let is_shown = *byte >= b' ' && *byte <= b'~';
-        text.push(char::from(if is_shown { *byte } else { b'?' }))?;
-    }
-    Ok(text)
 }
 
 /// Reads what a server says of itself at the socket for that in its folder.

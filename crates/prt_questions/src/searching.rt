@@ -48,6 +48,7 @@ fn search_over<W: Write, E: Write>(
     ensures status { (result ≡ DONE) ⊎ ((result ≡ REFUSED) ⊎ (result ≡ FAULT)) }
     ensures found { (result ≡ DONE) ⊎ (result ≡ REFUSED) → IsSearched (W.contents output.old) (W.contents output.new) result tables.now.version }
     ensures at_most { IsSearchedAtMost (W.contents output.old) (W.contents output.new) tables.now.version }
+    ensures left { result ≡ DONE → tables.now.left ≡ DONE }
 {
     let found = match unused(alloc, &tables.version) {
         Ok(found) => found,
@@ -88,7 +89,7 @@ pub(crate) fn search<
     errors: &mut E,
 ) -> u8
     ensures status { (result ≡ DONE) ⊎ ((result ≡ REFUSED) ⊎ (result ≡ FAULT)) }
-    ensures found { (result ≡ DONE) ⊎ (result ≡ REFUSED) → IsFoundOf S.Store M.opens M.refuses M.closes (sources_of F.opens F.Opened.remaining databases.old.files.now N.reaches N.Stream.remaining databases.old.rt (R.remaining input.old)) databases.old.machine databases.new.machine source.now (IsSearched (W.contents output.old) (W.contents output.new) result) }
+    ensures found { (result ≡ DONE) ⊎ (result ≡ REFUSED) → IsFoundOf S.Store M.opens M.refuses M.closes (sources_of F.opens F.Opened.remaining databases.old.files.now N.reaches N.Stream.remaining databases.old.rt (R.remaining input.old)) databases.old.machine databases.new.machine source.now result (IsSearched (W.contents output.old) (W.contents output.new) result) }
     ensures at_most { IsFoundAtMost S.Store M.opens M.refuses M.closes (sources_of F.opens F.Opened.remaining databases.old.files.now N.reaches N.Stream.remaining databases.old.rt (R.remaining input.old)) databases.old.machine databases.new.machine (W.contents output.old) (W.contents output.new) source.now (IsSearchedAtMost (W.contents output.old) (W.contents output.new)) }
 {
     let tables = match tables_at(databases, alloc, source, input, output, errors) {

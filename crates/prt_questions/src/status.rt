@@ -2,13 +2,14 @@
 ghost use Rattle.std.specs.Prelude.{◌≡◌, ◌⊎◌};
 
 use crate::asking::write_text;
-use crate::local::LocalNet;
+use crate::local::{LocalNet, Socket};
 use crate::reading::{is_newline, last_line, report_no_memory};
 use crate::remote::{NotTold, read_status};
 use crate::telling::tell;
 use prt_program::cause_message;
 use prt_words::{DONE, FAULT, Inspecting, StatusForm};
 use std::alloc::{AllocError, Global};
+use std::fmt;
 use std::io::Write;
 
 /// The exit status if the server takes no command any more.
@@ -16,6 +17,9 @@ pub const CLOSED: u8 = 4;
 
 /// What the line of a closed server begins with.
 const CLOSED_LINE: &[u8] = b"state closed";
+
+/// What stands for a value that isn't known.
+const UNKNOWN: &[u8] = b"-";
 
 /// What the name of each metric begins with.
 const PREFIX: &[u8] = b"prt_";
@@ -71,6 +75,9 @@ impl<'a> Figure<'a> {
         if self.is_number() {
             return out.extend_from_slice(self.value);
         }
+        if self.value == UNKNOWN {
+            return out.extend_from_slice(b"null");
+        }
         push_string(out, self.value)
     }
 
@@ -105,6 +112,16 @@ impl<'a> Figure<'a> {
                 self.push_json(out)
             }
         }
+    }
+}
+
+/// The socket of the status in the folder of a server.
+#[derive(Clone, Copy)]
+struct StatusSocket<'a>(&'a str);
+
+impl<'a> fmt::Display for StatusSocket<'a> {
+    fn fmt<W: fmt::Write>(&self, f: &mut fmt::Formatter<W>) -> fmt::Result {
+        write!(f, "{}/{}", self.0, Socket::Status.name())
     }
 }
 
@@ -194,7 +211,7 @@ pub(crate) fn show_status<N: LocalNet, W: Write, E: Write>(
     let said = match read_whole_status(rt, alloc, folder) {
         Ok(said) => said,
         Err(reason) => {
-            tell(cause_message(alloc, &folder, &reason), errors);
+            tell(cause_message(alloc, &StatusSocket(folder), &reason), errors);
             return FAULT;
         }
     };

@@ -1,32 +1,27 @@
 //! Scripts whose commands a server makes together.
-ghost use Rattle.std.specs.Prelude.{◌≡◌, ◌≢◌, ◌⊎◌, ◌++◌, IfErr, IfOk, IfSome, List, OnErr, Option, [], codes, length, true, ℕ};
+ghost use Rattle.std.specs.Prelude.{◌≡◌, ◌≢◌, ◌⊎◌, ◌++◌, IfErr, IfOk, IfSome, List, OnErr, Option, [], codes, ℕ};
 ghost use Rattle.std.specs.Io.KnownBytes.{Appends};
 ghost use Rattle.prt_questions.specs.Sources.{IsAtomicReply, IsFileOf, IsRead, path_of, sources_of};
-ghost use Rattle.prt_questions.specs.Submitting.{EndsWith, IsAllMade, IsQuiet, IsReadOf, IsSent, IsSubmitted, IsVerdictOf, fault_by, refused_by, submission_text};
+ghost use Rattle.prt_questions.specs.Submitting.{EndsWith, IsAllMade, IsQuiet, IsReadOf, IsSent, IsSubmitted, IsVerdictOf, fault_by, refused_by};
 ghost use Rattle.prt_refusals.specs.Refusal.{refusal_text};
 ghost use Rattle.prt_refusals.specs.declared.refusal.Refusal.{Refusal};
 ghost use Rattle.prt_refusals.specs.declared.refusal.Refusal.TheVariants.{NoMemory, ReadFault};
 ghost use Rattle.prt_replies.specs.Reply.{replies_text};
 ghost use Rattle.prt_replies.specs.declared.reply.Reply.{Reply};
-ghost use Rattle.prt_session.specs.Atomic.{ReadIs, accepted_after};
+ghost use Rattle.prt_session.specs.Atomic.{ReadIs};
 ghost use Rattle.prt_words.specs.declared.fault.Fault.TheVariants.{Opening};
 
-use crate::local::{LocalNet, Socket};
-use crate::reading::is_newline;
-use crate::remote::{NotTold, PATIENCE, expect_atomic};
-use itoa::Buffer;
-use prt_diff::commands_text;
-use prt_feed::number_of;
+use crate::atomic::{accepts_each, exchange, expect_atomic, submission_text};
+use crate::local::LocalNet;
+use crate::remote::NotTold;
 use prt_program::{Messages, Noting, ReadFiles, Refusal, buffered, cause_message, exit_status};
 use prt_refusals::StoreCall;
 use prt_replies::{Observer, Reply, ScriptEnd, refused_line, write_bytes};
-use prt_session::{Command, CommandsRead, collect_commands, write_accepted};
+use prt_session::{CommandsRead, collect_commands};
 use prt_words::{DONE, FAULT, Fault, STANDARD_INPUT, ServerPlace, Submitting};
-use std::alloc::{AllocError, Global};
+use std::alloc::Global;
 use std::io::{IsTerminal, Read, Write};
-use std::net::{OpenStream, Shutdown};
 use std::rt::Clock;
-use std::time::Duration;
 
 /// Each refusal that a server may reply.
 const REFUSALS: [Refusal; 34] = [
@@ -65,77 +60,6 @@ const REFUSALS: [Refusal; 34] = [
     Refusal::WriteFault,
     Refusal::TooManyLines,
 ];
-
-/// Builds what a server is sent to make these commands together: how many there are, so that a script that is cut off changes
-/// nothing, and a line for each.
-fn submission_text(alloc: Global, commands: &[Command]) -> Result<Vec<u8>, NotTold>
-    ensures { IfOk result (λ text. text.items ≡ submission_text commands.now) }
-{
-    // Each command that was read has a line, so only memory may lack.
-    let Ok(lines) = commands_text(alloc, commands) else {
-        return Err(NotTold::Tables(Refusal::NoMemory));
-    };
-    let mut digits = Buffer::new();
-    let mut text = Vec::from_slice(alloc, b"commands ")?;
-    text.extend_from_slice(digits.format(commands.len()).as_bytes())?;
-    text.extend_from_slice(b"\n")?;
-    text.extend_from_slice(&lines)?;
-    Ok(text)
-}
-
-/// Sends a server an atomic script, and reads all that it replies.
-///
-/// # Errors
-///
-/// `Unknown` if the reply can't be read to its end: the commands may be made. Otherwise what befell the connection before, and
-/// none is made.
-fn exchange<N: LocalNet>(
-    rt: &N,
-    alloc: Global,
-    place: &ServerPlace<'_>,
-    sent: &[u8],
-) -> Result<Vec<u8>, NotTold>
-    ensures { IfOk result (λ reply. IsAtomicReply N.reaches N.Stream.remaining rt.now place.now sent.now reply.items) }
-{
-    let patience = Duration::from_secs(PATIENCE);
-    let mut stream = rt.reach(alloc, place, Socket::Atomic, patience, sent)?;
-    if stream.shutdown(Shutdown::Write).is_err() {
-        return Err(NotTold::Unknown);
-    }
-    let mut reply = Vec::new(alloc);
-    match stream.read_to_end(&mut reply) {
-        Ok(_) => Ok(reply),
-        Err(_) => Err(NotTold::Unknown),
-    }
-}
-
-/// Finds the number of commands that were accepted before those of a reply, if its first line accepts one.
-fn number_before(reply: &[u8]) -> Option<u64> {
-    let rest = reply.strip_prefix(b"ok ")?;
-    let digits = rest.split(is_newline).next()?;
-    number_of(digits)?.checked_sub(1)
-}
-
-/// Checks whether a reply accepts as many commands, with numbers that rise by one.
-///
-/// # Errors
-///
-/// `Tables` with `NoMemory`.
-fn accepts_each(alloc: Global, reply: &[u8], count: usize) -> Result<bool, NotTold>
-    ensures { IfOk result (λ accepts. accepts ≡ true → (number : ℕ) × (reply.now ≡ replies_text (accepted_after number count))) }
-{
-    let Some(number) = number_before(reply) else {
-        return Ok(false);
-    };
-    if number > u64::MAX - count as u64 {
-        return Ok(false);
-    }
-    let mut text = Vec::new(alloc);
-    if !write_accepted(&mut text, number, count) {
-        return Err(NotTold::Tables(Refusal::NoMemory));
-    }
-    Ok(text.as_slice() == reply)
-}
 
 /// Finds the refusal that a reply says, if that is all that it says.
 fn refusal_in(reply: &[u8]) -> Option<Refusal>

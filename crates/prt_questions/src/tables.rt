@@ -3,12 +3,12 @@ ghost use Rattle.std.specs.Prelude.{◌≡◌, ◌⊎◌, IfErr, IfOk, List, OnO
 ghost use Rattle.prt_import.specs.Accepted.{IsExecuted};
 ghost use Rattle.prt_import.specs.declared.accepted.Accepted.{Accepted as AcceptedOf};
 ghost use Rattle.prt_questions.specs.Analyses.{HaveTables, IsNotRead};
-ghost use Rattle.prt_questions.specs.Asking.{IsAskedAt, IsNotOpened};
+ghost use Rattle.prt_questions.specs.Asking.{AreKernels, IsAskedAt, IsNotOpened};
 ghost use Rattle.prt_questions.specs.Sources.{AreTold, HasLeft, IsFileOf, IsRead, path_of, rest_after, rest_by, sources_of};
 
 use crate::asking::{REFUSED, run_over_new};
 use crate::databases::DatabaseFiles;
-use crate::left::tell_left;
+use crate::left::{tell_all_left_out, tell_left};
 use crate::local::LocalNet;
 use crate::machine::{Machine, Wanted};
 use crate::opening::{close_at, open_desk, report_unopened};
@@ -17,7 +17,7 @@ use crate::remote::read_tables;
 use crate::telling::tell;
 use prt_program::{ReadFiles, cause_message};
 use prt_version::Version;
-use prt_words::{DONE, FAULT, ServerPlace, Source};
+use prt_words::{DONE, FAULT, STANDARD_INPUT, ServerPlace, Source};
 use sqlite::{Alter, Connection};
 use std::alloc::Global;
 use std::io::{Read, Write};
@@ -101,7 +101,7 @@ fn server_tables<N: LocalNet, E: Write>(
     }
 }
 
-/// Reads the tables that a script makes of a new database, and reports its refused lines.
+/// Reads the tables that a script makes of a new database, and reports its refused lines, and what was left out of it.
 ///
 /// # Errors
 ///
@@ -114,7 +114,7 @@ fn script_tables<F: ReadFiles, R: Read, W: Write, E: Write>(
     output: &mut W,
     errors: &mut E,
 ) -> Result<Tables, u8>
-    ensures read { IfOk result (λ tables. (made : AcceptedOf) × (text : List ℕ) × IsRead (IsFileOf F.opens F.Opened.remaining files.now) (R.remaining input.old) (path_of file.entry) text × IsExecuted made text × (tables.version ≡ made.version)) }
+    ensures read { IfOk result (λ tables. (made : AcceptedOf) × (text : List ℕ) × IsRead (IsFileOf F.opens F.Opened.remaining files.now) (R.remaining input.old) (path_of file.entry) text × IsExecuted made text × (tables.left ≡ DONE → AreKernels made.left.items) × (tables.version ≡ made.version)) }
     ensures rest { OnOk result (HasLeft (rest_after (path_of file.entry)) (R.remaining input.old) (R.remaining input.new)) }
     ensures left { IfOk result (λ tables. (tables.left ≡ DONE) ⊎ (tables.left ≡ REFUSED)) }
     ensures fault { IfErr result (λ status. status ≡ FAULT) }
@@ -123,6 +123,7 @@ fn script_tables<F: ReadFiles, R: Read, W: Write, E: Write>(
     let script = read_whole(files, alloc, file, input, output, errors)?;
     let made = run_over_new(alloc, &script, output, errors)?;
     let left = tell_left(alloc, file, &made.left, errors);
+    tell_all_left_out(alloc, file.unwrap_or(STANDARD_INPUT), &script, errors);
     Ok(Tables {
         version: made.version,
         left,
@@ -150,7 +151,7 @@ pub(crate) fn tables_at<
     output: &mut W,
     errors: &mut E,
 ) -> Result<Tables, u8>
-    ensures read { IfOk result (λ tables. HaveTables S.Store M.opens M.refuses M.closes (sources_of F.opens F.Opened.remaining databases.old.files.now N.reaches N.Stream.remaining databases.old.rt (R.remaining input.old)) databases.old.machine databases.new.machine source.now tables.version) }
+    ensures read { IfOk result (λ tables. HaveTables S.Store M.opens M.refuses M.closes (sources_of F.opens F.Opened.remaining databases.old.files.now N.reaches N.Stream.remaining databases.old.rt (R.remaining input.old)) databases.old.machine databases.new.machine source.now tables.left tables.version) }
     ensures rest { OnOk result (HasLeft (rest_by source.now) (R.remaining input.old) (R.remaining input.new)) }
     ensures unread { IfErr result (λ status. IsNotRead S.Store M.opens M.refuses M.closes (sources_of F.opens F.Opened.remaining databases.old.files.now N.reaches N.Stream.remaining databases.old.rt (R.remaining input.old)) databases.old.machine databases.new.machine source.now) }
     ensures left { IfOk result (λ tables. (tables.left ≡ DONE) ⊎ (tables.left ≡ REFUSED)) }

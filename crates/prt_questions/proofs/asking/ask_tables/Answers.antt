@@ -1,6 +1,7 @@
 use Rattle.std.proofs.Common.{◌≡◌, ◌⊎◌, ℕ, List, inl, subst}
+use Rattle.std.specs.Io.KnownBytes.{Appends}
 use Rattle.prt_questions.specs.Asking.{IsCutOff, IsTold}
-use Rattle.prt_questions.proofs.Asked.{told_at_most}
+use Rattle.prt_questions.proofs.Asked.{or_query, told_at_most, told_whole}
 use Rattle.prt_questions.specs.Sources.{sources_of}
 use Rattle.prt_questions.proofs.asking.ask_tables.Goals as goal
 
@@ -9,6 +10,17 @@ returns-in-None-clause-whole g c = λ done. inl (c.ask_source.ensures.whole done
 
 pub returns-in-None-clause-at_most : goal.returns-in-None-clause-at_most
 returns-in-None-clause-at_most g c = inl c.ask_source.ensures.at_most
+
+pub returns-in-Some-clause-whole : goal.returns-in-Some-clause-whole
+returns-in-Some-clause-whole g c = λ done.
+    let from = sources_of g.F.ReadFiles.opens g.F.Opened.Read.remaining c.args.databases.now.files.now g.N.LocalNet.reaches g.N.Stream.Read.remaining c.args.databases.now.rt (g.R.Read.remaining c.args.input.now) in
+    let inquiry = c.args.inquiry.now in
+    let writer0 = g.W.Write.contents c.args.output.now in
+    let writer = g.W.Write.contents c.ask_session.new.output in
+    let place = c.in-Some.place in
+    let told =
+    subst (λ line. (text : List ℕ) × IsTold (from.tells place) (from.replies place line) inquiry text × Appends writer0 writer text) c.deref.ensures.value (c.ask_session.ensures.whole done) in
+    or_query c.in-Some.ensures.1 (rw c.in-Some.ensures.0 (told_whole g.S.Store g.M.Machine.opens g.M.Machine.refuses g.M.Machine.closes from c.args.databases.now.machine writer0 writer place c.args.asking.now.line.items inquiry told.0 told.1 told.2))
 
 pub returns-in-Some-clause-at_most : goal.returns-in-Some-clause-at_most
 returns-in-Some-clause-at_most g c =
@@ -19,4 +31,4 @@ returns-in-Some-clause-at_most g c =
     let place = c.in-Some.place in
     let part =
     subst (λ line. (writer ≡ writer0) ⊎ ((text : List ℕ) × IsTold (from.tells place) (from.replies place line) inquiry text × IsCutOff text writer0 writer)) c.deref.ensures.value c.ask_session.ensures.part in
-    rw c.in-Some.ensures (told_at_most g.S.Store g.M.Machine.opens g.M.Machine.refuses g.M.Machine.closes from c.args.databases.now.machine writer0 writer place c.args.asking.now.line.items inquiry part)
+    or_query c.in-Some.ensures.1 (rw c.in-Some.ensures.0 (told_at_most g.S.Store g.M.Machine.opens g.M.Machine.refuses g.M.Machine.closes from c.args.databases.now.machine writer0 writer place c.args.asking.now.line.items inquiry part))

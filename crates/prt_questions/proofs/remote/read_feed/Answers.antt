@@ -6,4 +6,4 @@ pub returns : goal.returns
 returns g c =
     let known = reader_remaining g.T.Read.remaining in
     let told = c.in_ok-version.ensures in
-    (told.0, told.1, opening_of (known c.args.reader.now) (known c.is_feed.new.reader) told.0 told.1 c.is_feed.ensures told.2, told.3)
+    (told.0, opening_of (known c.args.reader.now) (known c.is_feed.new.reader) (known c.read_version.new.reader) told.0 c.is_feed.ensures told.1, told.2)

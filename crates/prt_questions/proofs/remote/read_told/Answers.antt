@@ -6,7 +6,7 @@ pub returns-in_ok-read_version : goal.returns-in_ok-read_version
 returns-in_ok-read_version g c =
     let known = reader_remaining g.R.Read.remaining in
     let told = c.in_ok-read_version.ensures in
-    (told.0, told.1, opening_of (known c.args.reader.now) (known c.first_byte.new.reader) told.0 told.1 c.first_byte.ensures told.2, told.3)
+    (known c.read_version.new.reader, (told.0, opening_of (known c.args.reader.now) (known c.first_byte.new.reader) (known c.read_version.new.reader) told.0 c.first_byte.ensures told.1, told.2))
 
 pub returns-in_ok-read_reply : goal.returns-in_ok-read_reply
 returns-in_ok-read_reply g c =
