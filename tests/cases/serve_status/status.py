@@ -47,7 +47,7 @@ def forms():
     said, (code, as_json, told), (other, metrics, more) = status(), ask("--json"), ask("--metrics")
     print(list(said) == NAMES, code, other, repr(told + more))
     object_said = json.loads(as_json, parse_float=Decimal)
-    print(as_json.count("\n"), {name.replace(" ", "_"): value for name, value in said.items()} == {name: str(value) for name, value in object_said.items()})
+    print(as_json.count("\n"), {name.replace(" ", "_"): value for name, value in said.items()} == {name: "-" if value is None else str(value) for name, value in object_said.items()})
     print([name for name, value in object_said.items() if isinstance(value, str) and NUMBER.fullmatch(value)])
     samples = dict(line.split(" ") for line in metrics.splitlines())
     print(samples.pop("prt_open"), all(re.fullmatch("prt_[a-z_]+", name) and NUMBER.fullmatch(value) for name, value in samples.items()))
