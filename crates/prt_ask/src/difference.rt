@@ -8,7 +8,7 @@ use crate::answers::Answered;
 use crate::notes::Notes;
 use crate::refusal::NotAnswered;
 use prt_command::Command;
-use prt_diff::{Changes, Fence, changes, commands_text, count_outside};
+use prt_diff::{Changes, Fence, batch_text, changes, count_outside};
 use prt_version::Version;
 use std::alloc::Global;
 
@@ -43,7 +43,7 @@ pub(crate) fn find_difference(
         left,
         held,
     } = changes(alloc, fence, found, wanted)?;
-    let text = commands_text(alloc, &commands)?;
+    let text = batch_text(alloc, &commands)?;
     let outside = count_outside(fence, wanted)?;
     let notes = Notes {
         early,

@@ -13,7 +13,7 @@ use Rattle.prt_diff.specs.Fence.{is_kernels}
 use Rattle.prt_diff.specs.Names.{is_plain_name}
 use Rattle.prt_diff.specs.Routes.{replace_route}
 use Rattle.prt_diff.specs.Rules.{add_rule}
-use Rattle.prt_diff.specs.Text.{commands_text}
+use Rattle.prt_diff.specs.Text.{batch_text}
 use Rattle.prt_diff.specs.Unreadable.{is_unreadable_route, is_unreadable_rule}
 use Rattle.prt_diff.specs.declared.held.Held.{Held}
 
@@ -55,7 +55,7 @@ replacing_commands state =
 
 -- a line for each
 abbrev pub replacing_text : State → List ℕ
-replacing_text state = commands_text (replacing_commands state)
+replacing_text state = batch_text (replacing_commands state)
 
 -- What of the state is left out: the rules and routes that `ip -batch` can't read. Nothing else is held back.
 pub record AreLeftOut (state : State) (held : Held) : Type 0 where

@@ -4,8 +4,10 @@ use Rattle.prt_command.specs.Reading.{reading}
 use Rattle.prt_command.specs.declared.request.Command.{Command}
 use Rattle.prt_command.specs.declared.request.Request.TheVariants as requests
 use Rattle.prt_listing.specs.QueryText.{lines_text}
-use Rattle.prt_spelling.specs.Line.{command_line}
+use Rattle.prt_spelling.specs.Line.{line_by}
 use Rattle.prt_spelling.specs.Spelled.{is_spelled}
+use Rattle.prt_spelling.specs.declared.form.ProtocolForm.{ProtocolForm}
+use Rattle.prt_spelling.specs.declared.form.ProtocolForm.TheVariants.{ByName, ByNumber}
 use Rattle.prt_version.specs.State.{State}
 use Rattle.prt_diff.specs.Plan.{changes}
 use Rattle.prt_diff.specs.declared.fence.Fence.{Fence}
@@ -13,15 +15,23 @@ use Rattle.prt_diff.specs.declared.refusal.NotWritten.{NotWritten}
 use Rattle.prt_diff.specs.declared.refusal.NotWritten.TheVariants.{NoLine, NoMemory}
 
 -- a line for each command, with its newline
+abbrev pub text_by : ProtocolForm → List Command → List ℕ
+text_by form commands = lines_text (map (line_by form) commands)
+
+-- the lines with the names of protocols, for a reader and for a server
 abbrev pub commands_text : List Command → List ℕ
-commands_text commands = lines_text (map command_line commands)
+commands_text commands = text_by ByName commands
+
+-- the lines with their numbers, for `ip -batch`
+abbrev pub batch_text : List Command → List ℕ
+batch_text commands = text_by ByNumber commands
 
 abbrev pub changes_text : Fence → State → State → List ℕ
-changes_text fence found wanted = commands_text (changes fence found wanted)
+changes_text fence found wanted = batch_text (changes fence found wanted)
 
 -- the line of the command asks for it
-abbrev pub IsAskedFor : Command → Type 0
-IsAskedFor command = reading (command_line command) ≡ Ok (Some (requests.Command command))
+abbrev pub IsAskedFor : ProtocolForm → Command → Type 0
+IsAskedFor form command = reading (line_by form command) ≡ Ok (Some (requests.Command command))
 
 -- the first command that no line can express
 abbrev pub IsWhyNotWritten : List Command → NotWritten → Type 0

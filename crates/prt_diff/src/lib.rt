@@ -24,5 +24,5 @@ pub use outside::{Outside, count_outside};
 pub use plan::Changes;
 pub use refusal::NotWritten;
 pub use replacing::{left_out_of_replacing, replacing_text};
-pub use text::{changes_text, commands_text};
+pub use text::{batch_text, changes_text, commands_text};
 pub use unreadable::Unreadable;

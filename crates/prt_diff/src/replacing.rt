@@ -1,5 +1,6 @@
 //! The lines that put a version back on a host that has made some of its routes already.
 ghost use Rattle.std.specs.Prelude.{◌≡◌, ◌++◌, All, IfErr, IfOk, OnOk, filter, map};
+ghost use Rattle.prt_spelling.specs.declared.form.ProtocolForm.TheVariants.{ByNumber};
 ghost use Rattle.prt_diff.specs.Replacing.{AreLeftOut, clearing, direct_routes, first_local, first_rule, gateway_routes, is_put_back, plain_rules, replacing_commands, replacing_text, spare_rule};
 ghost use Rattle.prt_diff.specs.Routes.{replace_route};
 ghost use Rattle.prt_diff.specs.Rules.{add_rule};
@@ -12,7 +13,7 @@ use crate::fence::is_kernels;
 use crate::held::Held;
 use crate::names::is_plain_name;
 use crate::refusal::NotWritten;
-use crate::text::commands_text;
+use crate::text::batch_text;
 use crate::unreadable::{Unreadable, is_unreadable_route, is_unreadable_rule};
 use prt_command::Command;
 use prt_route::{LOCAL_TABLE, Prefix, Route};
@@ -155,13 +156,13 @@ fn replacing_commands(alloc: Global, version: &Version) -> Result<Vec<Command>, 
 /// come instead.
 pub fn replacing_text(alloc: Global, version: &Version) -> Result<Vec<u8>, NotWritten>
     ensures text { IfOk result (λ text. text.items ≡ replacing_text version.now) }
-    ensures read { IfOk result (λ text. All IsAskedFor (replacing_commands version.now)) }
+    ensures read { IfOk result (λ text. All (IsAskedFor ByNumber) (replacing_commands version.now)) }
     ensures reason { IfErr result (λ reason. IsWhyNotWritten (replacing_commands version.now) reason) }
 {
     let Ok(commands) = replacing_commands(alloc, version) else {
         return Err(NotWritten::NoMemory);
     };
-    commands_text(alloc, &commands)
+    batch_text(alloc, &commands)
 }
 
 /// Finds the rules that `ip -batch` can't read.

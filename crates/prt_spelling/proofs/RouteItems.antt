@@ -1,11 +1,12 @@
 -- What the lines of routes say, item by item.
 use Rattle.std.proofs.Common.{◌≡◌, ℕ, ◌+◌, ◌^◌, ◌<◌, ◌≤◌, Bool, true, false, List, [], ◌∷◌, ◌++◌, Option, Some, None, Ok, IfSome, is_some, option_map, refl, ap, ◌∙◌, arith, nat_le}
 use Rattle.std.specs.Prelude.{codes, decimal, ◌==◌, if◌then◌else◌, unwrap_or}
-use Rattle.std.specs.Option.{ok_or}
+use Rattle.std.specs.Option.{ok_or, option_or}
 use Rattle.std.specs.List.{filter_map}
 use Rattle.std.proofs.lemmas.Bool.Decides.{nat_tests}
 use Rattle.prt_addr.specs.Addr.{addr_text}
 use Rattle.prt_addr.specs.Block.{Block}
+use Rattle.prt_addr.specs.Number.{number}
 use Rattle.prt_addr.specs.Prefix.{everything, net, prefix, prefix_text}
 use Rattle.prt_addr.specs.Sound.{IsPrefix}
 use Rattle.prt_addr.specs.Word.{Word, keep}
@@ -30,19 +31,17 @@ use Rattle.prt_command.specs.declared.item.Slot.TheVariants.{Destination, Via, D
 use Rattle.prt_command.specs.declared.item.Target.{Target}
 use Rattle.prt_listing.specs.Parts.{is_everything, name_or_number, part, prefix_or, table_text}
 use Rattle.prt_spelling.specs.Fits.{AddrFits}
-use Rattle.prt_spelling.specs.Parts.{proto_part, scope_part}
+use Rattle.prt_spelling.specs.Parts.{proto_part, protocol_text, said, scope_part}
 use Rattle.prt_spelling.specs.Plain.{is_plain_name}
-use Rattle.prt_spelling.proofs.Digits.{number_back}
-use Rattle.prt_spelling.proofs.Letters.{begin_more, no_item, no_kind, no_protocol, no_scope, no_table, no_to}
+use Rattle.prt_spelling.specs.declared.form.ProtocolForm.{ProtocolForm}
+use Rattle.prt_spelling.specs.declared.form.ProtocolForm.TheVariants.{ByName, ByNumber}
+use Rattle.prt_spelling.proofs.Digits.{decimal_is, number_back}
+use Rattle.prt_spelling.proofs.Letters.{begin_more, digits_begin, no_item, no_kind, no_protocol, no_scope, no_table, no_to}
 use Rattle.prt_spelling.proofs.Texts.{IsWord, Reads, ReadsOne, joined, opened_goes, reads_keyword, reads_left_out, reads_shown, word_text}
 use Rattle.prt_spelling.proofs.Values.{address_back, address_begins, block_at, net_back, prefix_back, spelled_back}
 use Rattle.prt_spelling.proofs.Words.{address_word, both_true, decimal_word, name_facts, named_word, prefix_word as prefix_is_word}
 
 -- ---- what a line says of each part
-
--- the number, if it is not implied
-abbrev pub said : ℕ → ℕ → Option ℕ
-said unsaid n = if n == unsaid then None else Some n
 
 pub unsaid_back_by : (unsaid n : ℕ) (b : Bool) → (n == unsaid) ≡ b → unwrap_or (if b then None else Some n) unsaid ≡ n
 unsaid_back_by unsaid n true is = let e : unsaid ≡ n = grind (arith, nat_tests) in e
@@ -113,16 +112,25 @@ table_by n false given new some fits =
     reads_keyword route_edit_line 5 10 given Table (codes "table") (table_text n) (item.Table n) refl (ap is_some new) (ap (λ o. map_ok item.Table (ok_or o BadTable)) (table_back n some fits))
     (record { some = omega arith; plain = refl; short = omega arith }) (named_word tables n refl fits)
 
-pub protocol_back : (n : ℕ) → n ≤ 255 → protocol (name_or_number protocols n) ≡ Some n
-protocol_back n fits =
+pub protocol_back : (form : ProtocolForm) (n : ℕ) → n ≤ 255 → protocol (protocol_text form n) ≡ Some n
+protocol_back ByName n fits =
     ap (keep (λ n. nat_le n 255)) (spelled_back protocols n (refl, (refl, (refl, (refl, (refl, (refl, (refl, (refl, (refl, (refl, (refl, tt))))))))))) (λ b. no_protocol (decimal n) b) (omega arith))
     ∙ ap (λ b. if b then Some n else None) (is_byte n fits)
+protocol_back ByNumber n fits =
+    let is = decimal_is n (omega arith) in
+    ap (λ o. keep (λ n. nat_le n 255) (option_or o (number (decimal n)))) (no_protocol (decimal n) (digits_begin (decimal n) is.some is.digits))
+    ∙ ap (keep (λ n. nat_le n 255)) (number_back n (omega arith))
+    ∙ ap (λ b. if b then Some n else None) (is_byte n fits)
 
-pub proto_reads : (line : LineKind) → word_in line.entries (codes "proto") ≡ Some (Keyword Proto) → (o : Option ℕ) (given : Items) → given.proto ≡ None → IfSome o (λ n. n ≤ 255) → ReadsOne line 16 given (with_proto given o) (proto_part o)
-proto_reads line begins None given new fits = reads_left_out line 16 given (with_proto given None) (ap (with_proto given) new)
-proto_reads line begins (Some n) given new fits =
-    reads_keyword line 5 10 given Proto (codes "proto") (name_or_number protocols n) (item.Proto n) begins (ap is_some new) (ap (λ o. map_ok item.Proto (ok_or o BadNumber)) (protocol_back n fits))
-    (record { some = omega arith; plain = refl; short = omega arith }) (named_word protocols n refl (omega (arith, fits)))
+protocol_word : (form : ProtocolForm) (n : ℕ) → n ≤ 255 → IsWord 10 (protocol_text form n)
+protocol_word ByName n fits = named_word protocols n refl (omega (arith, fits))
+protocol_word ByNumber n fits = named_word [] n refl (omega (arith, fits))
+
+pub proto_reads : (form : ProtocolForm) (line : LineKind) → word_in line.entries (codes "proto") ≡ Some (Keyword Proto) → (o : Option ℕ) (given : Items) → given.proto ≡ None → IfSome o (λ n. n ≤ 255) → ReadsOne line 16 given (with_proto given o) (proto_part form o)
+proto_reads form line begins None given new fits = reads_left_out line 16 given (with_proto given None) (ap (with_proto given) new)
+proto_reads form line begins (Some n) given new fits =
+    reads_keyword line 5 10 given Proto (codes "proto") (protocol_text form n) (item.Proto n) begins (ap is_some new) (ap (λ o. map_ok item.Proto (ok_or o BadNumber)) (protocol_back form n fits))
+    (record { some = omega arith; plain = refl; short = omega arith }) (protocol_word form n fits)
 
 pub scope_back : (n : ℕ) → n ≤ 255 → scope (name_or_number scopes n) ≡ Some n
 scope_back n fits =

@@ -1,17 +1,13 @@
 -- The line of a route to be put asks for it.
-use Rattle.std.proofs.Common.{◌≡◌, ℕ, ◌^◌, ◌<◌, ◌≤◌, Bool, true, false, not, List, [], ◌∷◌, ◌++◌, Option, Some, None, Result, Ok, IfSome, is_some, option_map, refl, sym, ap, ◌∙◌, subst, arith, nat_le}
-use Rattle.std.specs.Prelude.{codes, decimal, is_none, nat_lt, ◌==◌, ◌&&◌, ◌||◌, if◌then◌else◌, unwrap_or}
+use Rattle.std.proofs.Common.{◌≡◌, ℕ, ◌^◌, ◌<◌, ◌≤◌, Bool, true, false, not, List, [], ◌∷◌, Option, Some, None, Result, Ok, IfSome, is_some, refl, ap, ◌∙◌, arith, nat_le}
+use Rattle.std.specs.Prelude.{codes, is_none, nat_lt, ◌==◌, ◌&&◌, ◌||◌, if◌then◌else◌, unwrap_or}
 use Rattle.std.proofs.lemmas.Bool.Decides.{nat_tests}
-use Rattle.prt_addr.specs.Addr.{addr_text}
 use Rattle.prt_addr.specs.Block.{Block}
 use Rattle.prt_addr.specs.Word.{Word}
 use Rattle.prt_addr.specs.declared.addr.Addr.{Addr}
 use Rattle.prt_refusals.specs.declared.refusal.Refusal.{Refusal}
 use Rattle.prt_refusals.specs.declared.refusal.Refusal.TheVariants.{NoNextHop}
-use Rattle.prt_route.specs.Kind.{kind_name}
-use Rattle.prt_route.specs.Names.{protocols, scopes}
 use Rattle.prt_route.specs.Storable.{is_storable_route, suits}
-use Rattle.prt_route.specs.declared.choice.RouteChoice.{RouteChoice}
 use Rattle.prt_route.specs.declared.kind.Kind.{Kind}
 use Rattle.prt_route.specs.declared.kind.Kind.TheVariants.{Unicast, Blackhole, Unreachable, Prohibit, Throw}
 use Rattle.prt_route.specs.declared.route.Route.{Route}
@@ -27,70 +23,19 @@ use Rattle.prt_command.specs.declared.item.Slot.TheVariants.{Scope}
 use Rattle.prt_command.specs.declared.request.Command.{Command}
 use Rattle.prt_command.specs.declared.request.Request.{Request}
 use Rattle.prt_command.specs.declared.request.Request.TheVariants as requests
-use Rattle.prt_listing.specs.Parts.{name_or_number, part, prefix_or, spaced, unless}
-use Rattle.prt_listing.specs.RouteText.{kind_part, route_parts, table_part}
-use Rattle.prt_listing.specs.declared.route.TablePart.TheVariants.{Shown}
+use Rattle.prt_listing.specs.Parts.{spaced}
 use Rattle.prt_spelling.specs.Fits.{RouteChoiceFits, RouteFits}
-use Rattle.prt_spelling.specs.Parts.{global_part, has_unsaid_scope, new_route_parts, route_choice_parts}
+use Rattle.prt_spelling.specs.Parts.{given_of_route, global_part, has_unsaid_scope, new_route_parts, said}
 use Rattle.prt_spelling.specs.Plain.{is_plain_name}
 use Rattle.prt_spelling.specs.Spelled.{is_spelled_route}
+use Rattle.prt_spelling.specs.declared.form.ProtocolForm.{ProtocolForm}
 use Rattle.prt_spelling.proofs.Reading.{IsReadAs, one_request, read_by_parts}
 use Rattle.prt_spelling.proofs.Texts.{IsText, Reads, ReadsOne, reads_keyword, reads_left_out, reads_none}
 use Rattle.prt_spelling.proofs.RouteChoices.{choice_items, choice_reads}
-use Rattle.prt_spelling.proofs.RouteItems.{said, unsaid_back, with_scope}
+use Rattle.prt_spelling.proofs.RouteItems.{unsaid_back, with_scope}
 use Rattle.prt_spelling.proofs.Words.{both_true}
 
 -- ---- what a line says of a new route
-
-abbrev said_kind : Kind → Option Kind
-said_kind Unicast = None
-said_kind kind = Some kind
-
--- what is given of a route to be put, except for scope global if a new one would not have it
-abbrev given_of : Route → RouteChoice
-given_of route = record {
-  table = route.table;
-  prefix = route.prefix;
-  metric = said 0 route.metric;
-  kind = said_kind route.kind;
-  via = route.via;
-  dev = route.dev;
-  src = route.src;
-  proto = said 3 route.proto;
-  scope = said 0 route.scope;
-}
-
-kind_said : (kind : Kind) → kind_part kind ≡ option_map kind_name (said_kind kind)
-kind_said Unicast = refl
-kind_said Blackhole = refl
-kind_said Unreachable = refl
-kind_said Prohibit = refl
-kind_said Throw = refl
-
-said_as : (f : ℕ → List ℕ) (n : ℕ) (b : Bool) → (if b then None else Some (f n)) ≡ option_map f (if b then None else Some n)
-said_as f n true = refl
-said_as f n false = refl
-
-abbrev parts_by : Route → (kind proto scope metric : Option (List ℕ)) → List (Option (List ℕ))
-parts_by route kind proto scope metric =
-    kind
-    ∷ Some (prefix_or (codes "default") route.prefix)
-    ∷ part (codes "via") (option_map addr_text route.via)
-    ∷ part (codes "dev") route.dev
-    ∷ table_part Shown route.table
-    ∷ part (codes "proto") proto
-    ∷ part (codes "scope") scope
-    ∷ part (codes "src") (option_map addr_text route.src)
-    ∷ part (codes "metric") metric
-    ∷ []
-
--- a listing shows what is given
-parts_are : (route : Route) → route_choice_parts (given_of route) ≡ route_parts route Shown
-parts_are route =
-    ap (λ kind. parts_by route kind (option_map (name_or_number protocols) (said 3 route.proto)) (option_map (name_or_number scopes) (said 0 route.scope)) (option_map decimal (said 0 route.metric))) (sym (kind_said route.kind))
-    ∙ ap (λ proto. parts_by route (kind_part route.kind) proto (option_map (name_or_number scopes) (said 0 route.scope)) (option_map decimal (said 0 route.metric))) (sym (said_as (name_or_number protocols) route.proto (route.proto == 3)))
-    ∙ ap (λ scope. parts_by route (kind_part route.kind) (unless 3 route.proto (name_or_number protocols route.proto)) scope (option_map decimal (said 0 route.metric))) (sym (said_as (name_or_number scopes) route.scope (route.scope == 0)))
-    ∙ ap (λ metric. parts_by route (kind_part route.kind) (unless 3 route.proto (name_or_number protocols route.proto)) (unless 0 route.scope (name_or_number scopes route.scope)) metric) (sym (said_as decimal route.metric (route.metric == 0)))
 
 -- scope global, if it is at the end
 abbrev said_global : Bool → Option ℕ → Option ℕ
@@ -107,7 +52,7 @@ made table metric proto scope prefix kind via dev src = record { table = table; 
 
 -- what the line of the route says
 abbrev said_of : Route → Items
-said_of route = with_scope (choice_items (given_of route)) (said_global (has_unsaid_scope route) (said 0 route.scope))
+said_of route = with_scope (choice_items (given_of_route route)) (said_global (has_unsaid_scope route) (said 0 route.scope))
 
 unsaid_scope_by : (a b : Bool) (n : ℕ) → a && b ≡ true → (if b then None else Some n) ≡ None
 unsaid_scope_by true true n h = refl
@@ -118,7 +63,7 @@ said_fits : (P : ℕ → Type 0) (n : ℕ) (b : Bool) → P n → IfSome (if b t
 said_fits P n true fits = tt
 said_fits P n false fits = fits
 
-given_fits : (route : Route) → RouteFits route → route.table < 2 ^ 32 → RouteChoiceFits (given_of route)
+given_fits : (route : Route) → RouteFits route → route.table < 2 ^ 32 → RouteChoiceFits (given_of_route route)
 given_fits route fits below = record {
   table = below;
   prefix = fits.prefix;
@@ -129,12 +74,11 @@ given_fits route fits below = record {
   scope = said_fits (λ n. n ≤ 255) route.scope (route.scope == 0) fits.scope;
 }
 
-route_reads : (route : Route) → RouteFits route → 1 ≤ route.table → route.table < 2 ^ 32 → is_plain_name route.dev ≡ true → Reads route_edit_line 173 no_items (said_of route) (new_route_parts route)
-route_reads route fits some below plain =
-    subst (λ parts. Reads route_edit_line 173 no_items (said_of route) (parts ++ global_part route ∷ [])) (parts_are route)
-    (choice_reads (given_of route) (given_fits route fits below) some plain 13 (said_of route) (global_part route ∷ [])
-    ((global_by (has_unsaid_scope route) (choice_items (given_of route)) (unsaid_scope_by _ (route.scope == 0) route.scope)).more 0 (said_of route) []
-    (reads_none route_edit_line (said_of route))))
+route_reads : (form : ProtocolForm) (route : Route) → RouteFits route → 1 ≤ route.table → route.table < 2 ^ 32 → is_plain_name route.dev ≡ true → Reads route_edit_line 173 no_items (said_of route) (new_route_parts form route)
+route_reads form route fits some below plain =
+    choice_reads form (given_of_route route) (given_fits route fits below) some plain 13 (said_of route) (global_part route ∷ [])
+    ((global_by (has_unsaid_scope route) (choice_items (given_of_route route)) (unsaid_scope_by _ (route.scope == 0) route.scope)).more 0 (said_of route) []
+    (reads_none route_edit_line (said_of route)))
 
 -- ---- the route that they ask for
 
@@ -193,9 +137,9 @@ plain_facts route h =
     record { some = grind (arith, nat_tests, first.0); below = grind (arith, nat_tests, first.1); suits = second.1; name = each.1 }
 
 -- the line of a route to be put, by its verb
-pub route_read : (command : Route → Command) (front : List ℕ) (verb : Word) (m : ℕ) → IsText m front (codes "route" ∷ verb ∷ []) → m ≤ 800 → ((ws : List Word) → words_request (codes "route" ∷ verb ∷ ws) ≡ (items_of route_edit_line no_items ws >>= route_request command) >>= one_request) → (route : Route) → RouteFits route → is_spelled_route route ≡ true → IsReadAs (spaced (Some front ∷ new_route_parts route)) (command route)
-route_read command front verb m is short begins route fits spelled =
+pub route_read : (form : ProtocolForm) (command : Route → Command) (front : List ℕ) (verb : Word) (m : ℕ) → IsText m front (codes "route" ∷ verb ∷ []) → m ≤ 800 → ((ws : List Word) → words_request (codes "route" ∷ verb ∷ ws) ≡ (items_of route_edit_line no_items ws >>= route_request command) >>= one_request) → (route : Route) → RouteFits route → is_spelled_route route ≡ true → IsReadAs (spaced (Some front ∷ new_route_parts form route)) (command route)
+route_read form command front verb m is short begins route fits spelled =
     let facts = plain_facts route spelled in
-    read_by_parts front (codes "route") verb route_edit_line (route_request command) m 173 (said_of route) (new_route_parts route) (command route) is begins
-    (route_reads route fits facts.some facts.below facts.name) (omega (arith, short))
+    read_by_parts front (codes "route") verb route_edit_line (route_request command) m 173 (said_of route) (new_route_parts form route) (command route) is begins
+    (route_reads form route fits facts.some facts.below facts.name) (omega (arith, short))
     (asks_by command route.table route.metric route.proto route.scope route.prefix route.kind route.via route.dev route.src facts.suits)

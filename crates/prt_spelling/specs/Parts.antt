@@ -2,24 +2,78 @@
 use Rattle.std.specs.Prelude.{ℕ, Bool, ◌^◌, ◌-◌, ◌&&◌, ◌==◌, is_none, if◌then◌else◌, List, [], ◌∷◌, ◌++◌, Option, Some, None, option_map, codes, decimal}
 use Rattle.prt_addr.specs.Addr.{addr_text}
 use Rattle.prt_addr.specs.Block.{Block}
+use Rattle.prt_addr.specs.Word.{Word}
 use Rattle.prt_route.specs.Kind.{kind_name}
-use Rattle.prt_route.specs.Names.{global_scope, protocols, scopes}
+use Rattle.prt_route.specs.Names.{boot_protocol, global_scope, protocols, scopes}
 use Rattle.prt_route.specs.RouteChoice.{is_same_kind}
 use Rattle.prt_route.specs.declared.choice.Range.{Range}
 use Rattle.prt_route.specs.declared.choice.Range.TheVariants.{All, Root, Covering, Exact}
 use Rattle.prt_route.specs.declared.choice.RouteChoice.{RouteChoice}
 use Rattle.prt_route.specs.declared.choice.Selector.{Selector}
+use Rattle.prt_route.specs.declared.kind.Kind.{Kind}
 use Rattle.prt_route.specs.declared.kind.Kind.TheVariants.{Unicast}
 use Rattle.prt_route.specs.declared.route.Route.{Route}
 use Rattle.prt_rule.specs.declared.choice.RuleChoice.{RuleChoice}
 use Rattle.prt_rule.specs.declared.rule.Mark.{Mark}
 use Rattle.prt_command.specs.declared.request.NewRule.{NewRule}
 use Rattle.prt_listing.specs.Parts.{is_everything, mark_text, name_or_number, part, prefix_or, table_text}
-use Rattle.prt_listing.specs.RouteText.{route_parts, table_part}
+use Rattle.prt_listing.specs.RouteText.{table_part}
 use Rattle.prt_listing.specs.RuleText.{action_text, not_part}
 use Rattle.prt_listing.specs.declared.route.TablePart.TheVariants.{Shown}
+use Rattle.prt_spelling.specs.declared.form.ProtocolForm.{ProtocolForm}
+use Rattle.prt_spelling.specs.declared.form.ProtocolForm.TheVariants.{ByName, ByNumber}
 
 -- ---- routes
+
+-- the protocols that have a name in a line
+abbrev pub names_in : ProtocolForm → List (Word × ℕ)
+names_in ByName = protocols
+names_in ByNumber = []
+
+abbrev pub protocol_text : ProtocolForm → ℕ → List ℕ
+protocol_text form proto = name_or_number (names_in form) proto
+
+abbrev pub proto_part : ProtocolForm → Option ℕ → Option (List ℕ)
+proto_part form proto = part (codes "proto") (option_map (protocol_text form) proto)
+
+abbrev pub scope_part : Option ℕ → Option (List ℕ)
+scope_part scope = part (codes "scope") (option_map (name_or_number scopes) scope)
+
+-- a route to be deleted: all that is given, also what a listing leaves out, except for table main
+abbrev pub route_choice_parts : ProtocolForm → RouteChoice → List (Option (List ℕ))
+route_choice_parts form choice =
+    option_map kind_name choice.kind
+    ∷ Some (prefix_or (codes "default") choice.prefix)
+    ∷ part (codes "via") (option_map addr_text choice.via)
+    ∷ part (codes "dev") choice.dev
+    ∷ table_part Shown choice.table
+    ∷ proto_part form choice.proto
+    ∷ scope_part choice.scope
+    ∷ part (codes "src") (option_map addr_text choice.src)
+    ∷ part (codes "metric") (option_map decimal choice.metric)
+    ∷ []
+
+-- the number, except for one that is implied
+abbrev pub said : ℕ → ℕ → Option ℕ
+said unsaid n = if n == unsaid then None else Some n
+
+abbrev pub said_kind : Kind → Option Kind
+said_kind Unicast = None
+said_kind kind = Some kind
+
+-- what is given of a route to be put: all except what is implied as in a listing
+abbrev pub given_of_route : Route → RouteChoice
+given_of_route route = record {
+  table = route.table;
+  prefix = route.prefix;
+  metric = said 0 route.metric;
+  kind = said_kind route.kind;
+  via = route.via;
+  dev = route.dev;
+  src = route.src;
+  proto = said boot_protocol route.proto;
+  scope = said global_scope route.scope;
+}
 
 -- Scope global is implied in a listing. A new unicast route has it through a gateway alone.
 abbrev pub has_unsaid_scope : Route → Bool
@@ -28,29 +82,9 @@ has_unsaid_scope route = is_same_kind Unicast route.kind && is_none route.via &&
 abbrev pub global_part : Route → Option (List ℕ)
 global_part route = if has_unsaid_scope route then Some (codes "scope global") else None
 
--- a route to be put: what a listing of all tables shows of it, and scope global if a new one would not have it
-abbrev pub new_route_parts : Route → List (Option (List ℕ))
-new_route_parts route = route_parts route Shown ++ global_part route ∷ []
-
-abbrev pub proto_part : Option ℕ → Option (List ℕ)
-proto_part proto = part (codes "proto") (option_map (name_or_number protocols) proto)
-
-abbrev pub scope_part : Option ℕ → Option (List ℕ)
-scope_part scope = part (codes "scope") (option_map (name_or_number scopes) scope)
-
--- a route to be deleted: all that is given, also what a listing leaves out, except for table main
-abbrev pub route_choice_parts : RouteChoice → List (Option (List ℕ))
-route_choice_parts choice =
-    option_map kind_name choice.kind
-    ∷ Some (prefix_or (codes "default") choice.prefix)
-    ∷ part (codes "via") (option_map addr_text choice.via)
-    ∷ part (codes "dev") choice.dev
-    ∷ table_part Shown choice.table
-    ∷ proto_part choice.proto
-    ∷ scope_part choice.scope
-    ∷ part (codes "src") (option_map addr_text choice.src)
-    ∷ part (codes "metric") (option_map decimal choice.metric)
-    ∷ []
+-- a route to be put: what is given of it, and scope global if a new one would not have it
+abbrev pub new_route_parts : ProtocolForm → Route → List (Option (List ℕ))
+new_route_parts form route = route_choice_parts form (given_of_route route) ++ global_part route ∷ []
 
 -- a prefix after the word for what is taken by it
 abbrev pub ranged : List ℕ → Block → Option (List ℕ)
@@ -68,12 +102,12 @@ tables_text None = codes "all"
 tables_text (Some table) = table_text table
 
 -- The routes to be flushed: all that is given. The table is always said, since a flush has to say something.
-abbrev pub selector_parts : Selector → List (Option (List ℕ))
-selector_parts selector =
+abbrev pub selector_parts : ProtocolForm → Selector → List (Option (List ℕ))
+selector_parts form selector =
     range_part selector.range
     ∷ part (codes "table") (Some (tables_text selector.table))
     ∷ part (codes "type") (option_map kind_name selector.kind)
-    ∷ proto_part selector.proto
+    ∷ proto_part form selector.proto
     ∷ scope_part selector.scope
     ∷ part (codes "dev") selector.dev
     ∷ []

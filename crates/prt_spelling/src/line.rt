@@ -3,17 +3,20 @@ ghost use Rattle.std.specs.Prelude.{◌≡◌, ◌++◌, IfErr, IfOk, Ok, OnOk, 
 ghost use Rattle.prt_command.specs.Reading.{reading};
 ghost use Rattle.prt_command.specs.declared.request.Request.TheVariants as requests;
 ghost use Rattle.prt_listing.specs.Steps.{part_of};
-ghost use Rattle.prt_spelling.specs.Line.{command_line, command_parts, verb_words};
+ghost use Rattle.prt_spelling.specs.Line.{command_line, command_parts, line_by, verb_words};
 ghost use Rattle.prt_spelling.specs.Parts.{new_route_parts};
 ghost use Rattle.prt_spelling.specs.Spelled.{IsWhyNotSpelled};
 ghost use Rattle.prt_spelling.specs.Steps.{after_space, after_spaces};
 
 use crate::fits::recall_command;
-use crate::parts::{given_of, global_part, route_choice_parts, rule_choice_parts, selector_parts};
+use crate::form::ProtocolForm;
+use crate::parts::{
+    given_of, given_of_route, global_part, route_choice_parts, rule_choice_parts, selector_parts,
+};
 use crate::refusal::NotSpelled;
 use crate::spelled::is_spelled;
 use prt_command::Command;
-use prt_listing::{Part, TablePart, push_part, push_text, route_parts};
+use prt_listing::{Part, push_part, push_text};
 use prt_route::Route;
 use std::alloc::{AllocError, Global};
 
@@ -41,10 +44,10 @@ fn push_all(out: &mut Vec<u8>, parts: &[Option<Part>]) -> Result<(), AllocError>
 }
 
 /// Appends what a line says of a route to be put.
-fn push_new_route(out: &mut Vec<u8>, route: &Route) -> Result<(), AllocError>
-    ensures { OnOk result (out.new.items ≡ out.old.items ++ after_spaces (new_route_parts route.now)) }
+fn push_new_route(out: &mut Vec<u8>, form: ProtocolForm, route: &Route) -> Result<(), AllocError>
+    ensures { OnOk result (out.new.items ≡ out.old.items ++ after_spaces (new_route_parts form route.now)) }
 {
-    push_all(out, &route_parts(route, TablePart::Shown))?;
+    push_all(out, &route_choice_parts(form, &given_of_route(route)))?;
     push_all(out, &[global_part(route)])
 }
 
@@ -65,22 +68,31 @@ fn verb_words(command: &Command) -> &'static str
 }
 
 /// Appends what the line says after its verb.
-fn push_command(out: &mut Vec<u8>, command: &Command) -> Result<(), AllocError>
-    ensures { OnOk result (out.new.items ≡ out.old.items ++ after_spaces (command_parts command.now)) }
+fn push_command(out: &mut Vec<u8>, form: ProtocolForm, command: &Command) -> Result<(), AllocError>
+    ensures { OnOk result (out.new.items ≡ out.old.items ++ after_spaces (command_parts form command.now)) }
 {
     match command {
         Command::RouteAdd(route) | Command::RouteChange(route) | Command::RouteReplace(route) => {
-            push_new_route(out, route)
+            push_new_route(out, form, route)
         }
-        Command::RouteDel(choice) => push_all(out, &route_choice_parts(choice)),
-        Command::RouteFlush(selector) => push_all(out, &selector_parts(selector)),
+        Command::RouteDel(choice) => push_all(out, &route_choice_parts(form, choice)),
+        Command::RouteFlush(selector) => push_all(out, &selector_parts(form, selector)),
         Command::RuleAdd(rule) => push_all(out, &rule_choice_parts(&given_of(rule))),
         Command::RuleDel(choice) => push_all(out, &rule_choice_parts(choice)),
         Command::RuleFlush => Ok(()),
     }
 }
 
-/// Appends the line of the command, without a newline. It asks for the command if `is_spelled` is true of it.
+/// Appends the line of the command, with each protocol in this form, and without a newline.
+fn push_line_by(out: &mut Vec<u8>, form: ProtocolForm, command: &Command) -> Result<(), AllocError>
+    ensures { OnOk result (out.new.items ≡ out.old.items ++ line_by form command.now) }
+{
+    push_text(out, verb_words(command))?;
+    push_command(out, form, command)
+}
+
+/// Appends the line of the command, with the names of protocols, and without a newline. It asks for the command if
+/// `is_spelled` is true of it.
 ///
 /// # Errors
 ///
@@ -88,19 +100,18 @@ fn push_command(out: &mut Vec<u8>, command: &Command) -> Result<(), AllocError>
 pub fn push_line(out: &mut Vec<u8>, command: &Command) -> Result<(), AllocError>
     ensures { OnOk result (out.new.items ≡ out.old.items ++ command_line command.now) }
 {
-    push_text(out, verb_words(command))?;
-    push_command(out, command)
+    push_line_by(out, ProtocolForm::ByName, command)
 }
 
-/// Builds the line that asks for the command, without a newline.
+/// Builds the line that asks for the command, with each protocol in this form, and without a newline.
 ///
 /// # Errors
 ///
 /// `NoLine` if no line asks for it: an interface has a name with `#`, a control byte or a byte above 0x7e; a table may
 /// not hold the route or the rule; or of what is to be deleted or flushed a table or a metric is 0, a length is above 32,
 /// or nothing is given. `NoMemory` if memory is refused.
-pub fn command_line(alloc: Global, command: &Command) -> Result<Vec<u8>, NotSpelled>
-    ensures text { IfOk result (λ line. line.items ≡ command_line command.now) }
+pub fn line_by(alloc: Global, form: ProtocolForm, command: &Command) -> Result<Vec<u8>, NotSpelled>
+    ensures text { IfOk result (λ line. line.items ≡ line_by form command.now) }
     ensures read { IfOk result (λ line. reading line.items ≡ Ok (Some (requests.Command command.now))) }
     ensures reason { IfErr result (λ reason. IsWhyNotSpelled command.now reason) }
 {
@@ -109,8 +120,21 @@ pub fn command_line(alloc: Global, command: &Command) -> Result<Vec<u8>, NotSpel
     }
     recall_command(command);
     let mut line = Vec::new(alloc);
-    let Ok(()) = push_line(&mut line, command) else {
+    let Ok(()) = push_line_by(&mut line, form, command) else {
         return Err(NotSpelled::NoMemory);
     };
     Ok(line)
+}
+
+/// Builds the line that asks for the command, with the names of protocols, and without a newline.
+///
+/// # Errors
+///
+/// Those of [`line_by`].
+pub fn command_line(alloc: Global, command: &Command) -> Result<Vec<u8>, NotSpelled>
+    ensures text { IfOk result (λ line. line.items ≡ command_line command.now) }
+    ensures read { IfOk result (λ line. reading line.items ≡ Ok (Some (requests.Command command.now))) }
+    ensures reason { IfErr result (λ reason. IsWhyNotSpelled command.now reason) }
+{
+    line_by(alloc, ProtocolForm::ByName, command)
 }

@@ -4,15 +4,19 @@ ghost use Rattle.prt_route.specs.Kind.{kind_name};
 ghost use Rattle.prt_listing.specs.Parts.{part};
 ghost use Rattle.prt_listing.specs.RuleText.{action_text};
 ghost use Rattle.prt_listing.specs.Steps.{part_of, value_text};
-ghost use Rattle.prt_spelling.specs.Parts.{given_mark_part, given_mark_text, given_of, global_part, has_unsaid_scope, is_zero_mark, prefix_part, proto_part, range_part, ranged, route_choice_parts, rule_choice_parts, scope_part, selector_parts, tables_text};
+ghost use Rattle.prt_spelling.specs.Parts.{given_mark_part, given_mark_text, given_of, given_of_route, global_part, has_unsaid_scope, is_zero_mark, prefix_part, proto_part, protocol_text, range_part, ranged, route_choice_parts, rule_choice_parts, said, said_kind, scope_part, selector_parts, tables_text};
 
+use crate::form::ProtocolForm;
 use prt_command::NewRule;
 use prt_listing::{
     Part, TablePart, Value, action_part, addr_part, dev_part, is_everything, not_part, prefix_or,
     protocol_value, scope_value, suppress_part, table_part, table_value,
 };
-use prt_route::{GLOBAL_SCOPE, Kind, Prefix, Range, Route, RouteChoice, Selector};
+use prt_route::{BOOT_PROTOCOL, GLOBAL_SCOPE, Kind, Prefix, Range, Route, RouteChoice, Selector};
 use prt_rule::{Action, Mark, RuleChoice};
+
+/// The metric that is implied.
+const UNSAID_METRIC: u32 = 0;
 
 /// Checks whether a listing leaves out the scope of the route, and a new route would have another.
 fn has_unsaid_scope(route: &Route) -> bool
@@ -52,12 +56,22 @@ fn type_part(kind: Option<Kind>) -> Option<Part>
     }
 }
 
+/// Returns the name of a protocol, if the form has one, or its number.
+fn proto_value(form: ProtocolForm, proto: u8) -> Value
+    ensures { value_text result ≡ protocol_text form proto }
+{
+    match form {
+        ProtocolForm::ByName => protocol_value(proto),
+        ProtocolForm::ByNumber => Value::Number(u64::from(proto)),
+    }
+}
+
 /// Returns the protocol, if one is given.
-fn proto_part(proto: Option<u8>) -> Option<Part>
-    ensures { part_of result ≡ proto_part proto }
+fn proto_part(form: ProtocolForm, proto: Option<u8>) -> Option<Part>
+    ensures { part_of result ≡ proto_part form proto }
 {
     match proto {
-        Some(proto) => Some(Part::Named("proto", protocol_value(proto))),
+        Some(proto) => Some(Part::Named("proto", proto_value(form, proto))),
         None => None,
     }
 }
@@ -83,8 +97,8 @@ fn number_part(word: &'static str, number: Option<u32>) -> Option<Part>
 }
 
 /// Lists what a line says of the route to be deleted.
-pub(crate) fn route_choice_parts(choice: &RouteChoice) -> [Option<Part>; 9]
-    ensures { map part_of result ≡ route_choice_parts choice.now }
+pub(crate) fn route_choice_parts(form: ProtocolForm, choice: &RouteChoice) -> [Option<Part>; 9]
+    ensures { map part_of result ≡ route_choice_parts form choice.now }
 {
     [
         kind_part(choice.kind),
@@ -92,11 +106,52 @@ pub(crate) fn route_choice_parts(choice: &RouteChoice) -> [Option<Part>; 9]
         addr_part("via", choice.via),
         dev_part("dev", choice.dev),
         table_part(TablePart::Shown, choice.table),
-        proto_part(choice.proto),
+        proto_part(form, choice.proto),
         scope_part(choice.scope),
         addr_part("src", choice.src),
         number_part("metric", choice.metric),
     ]
+}
+
+/// Returns the number, except for one that is implied.
+fn said(unsaid: u32, number: u32) -> Option<u32>
+    ensures { result ≡ said unsaid number }
+{
+    if number == unsaid { None } else { Some(number) }
+}
+
+/// Returns the byte, except for one that is implied.
+fn said_byte(unsaid: u8, byte: u8) -> Option<u8>
+    ensures { result ≡ said unsaid byte }
+{
+    if byte == unsaid { None } else { Some(byte) }
+}
+
+/// Returns the kind, except for unicast.
+fn said_kind(kind: Kind) -> Option<Kind>
+    ensures { result ≡ said_kind kind }
+{
+    match kind {
+        Kind::Unicast => None,
+        _ => Some(kind),
+    }
+}
+
+/// Collects what a line has to say of a route to be put: all except what a listing leaves out.
+pub(crate) fn given_of_route(route: &Route) -> RouteChoice
+    ensures { result ≡ given_of_route route.now }
+{
+    RouteChoice {
+        table: route.table,
+        prefix: route.prefix,
+        metric: said(UNSAID_METRIC, route.metric),
+        kind: said_kind(route.kind),
+        via: route.via,
+        dev: route.dev,
+        src: route.src,
+        proto: said_byte(BOOT_PROTOCOL, route.proto),
+        scope: said_byte(GLOBAL_SCOPE, route.scope),
+    }
 }
 
 /// Builds a prefix after the word for what is taken by it.
@@ -129,14 +184,14 @@ fn tables_value(table: Option<u32>) -> Value
 }
 
 /// Lists what a line says of the routes to be flushed.
-pub(crate) fn selector_parts(selector: &Selector) -> [Option<Part>; 6]
-    ensures { map part_of result ≡ selector_parts selector.now }
+pub(crate) fn selector_parts(form: ProtocolForm, selector: &Selector) -> [Option<Part>; 6]
+    ensures { map part_of result ≡ selector_parts form selector.now }
 {
     [
         range_part(&selector.range),
         Some(Part::Named("table", tables_value(selector.table))),
         type_part(selector.kind),
-        proto_part(selector.proto),
+        proto_part(form, selector.proto),
         scope_part(selector.scope),
         dev_part("dev", selector.dev),
     ]

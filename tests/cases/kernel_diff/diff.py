@@ -41,9 +41,8 @@ def prefix(random):
 
 def route(random):
     table = random.choice(TABLES)
-    # Protocols by name alone: in a batch `ip` takes a name that follows a number for that number.
     metric = random.choice(["", " metric %d" % random.choice([1, 7, 100])])
-    rest = " table %s%s%s" % (table, metric, random.choice(["", " proto static", " proto dhcp"]))
+    rest = " table %s%s%s" % (table, metric, random.choice(["", " proto static", " proto dhcp", " proto 99"]))
     where = random.random()
     if where < 0.2:
         return "%s %s%s" % (random.choice(["blackhole", "unreachable", "prohibit", "throw"]), prefix(random), rest)

@@ -1,6 +1,6 @@
 """What the kernel or `ip` reads otherwise than it is written: each is brought, or told and left, and nothing else is lost by it."""
 
-from kernel import DATABASE, HOST, Space, bring, clean, differs, import_tables, prt
+from kernel import DATABASE, HOST, Space, bring, clean, differs, import_tables, prt, text_of
 
 DEFAULT = "route add default via 192.0.2.1 dev eth0"
 ALL = ("--db", DATABASE, "--all")
@@ -91,6 +91,22 @@ def names_of_protocols():
     space = Space()
     print(bring(space, *ALL) + space.ip("route", "show", "root", "10.0.0.0/8").stdout.rstrip())
     space.close()
+
+
+def numbers_of_protocols():
+    """A batch of `ip` stores a protocol with a name before and after one without, though it remembers the last name."""
+    tables_of()
+    protocols = ["static", "99", "static"]
+    prt("batch", "--db", DATABASE, input=text_of(f"route add 10.{place}.0.0/16 dev eth0 proto {proto}" for place, proto in enumerate(protocols, 1)))
+    brought, replaced = Space(), Space()
+    print(prt("diff", *ALL, input=brought.listed()).stdout, end="")
+    print(bring(brought, *ALL), end="")
+    replaced.do(prt("dump", "--db", DATABASE, "--replace").stdout.splitlines())
+    routes, others = (clean(space.ip("-N", "route", "show", "root", "10.0.0.0/14").stdout) for space in (brought, replaced))
+    print(*routes, sep="\n")
+    print(repr(differs(brought, *ALL)), routes == others)
+    for each in (brought, replaced):
+        each.close()
 
 
 def names_with_quotes():
@@ -206,8 +222,8 @@ def rules_of_priority_0():
 
 
 EDGES = [
-    rules_of_priority_0, mark_of_zero, unknown_selectors, copied_connected_routes, gateway_without_device, names_of_protocols, names_with_quotes,
-    several_next_hops, place_that_is_taken, network_of_an_address, beside_what_cannot_be_kept, other_listings,
+    rules_of_priority_0, mark_of_zero, unknown_selectors, copied_connected_routes, gateway_without_device, names_of_protocols, numbers_of_protocols,
+    names_with_quotes, several_next_hops, place_that_is_taken, network_of_an_address, beside_what_cannot_be_kept, other_listings,
 ]
 for edge in EDGES:
     print(f"{edge.__name__.replace('_', ' ')}:")

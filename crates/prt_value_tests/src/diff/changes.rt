@@ -531,7 +531,7 @@ route add 10.3/16 dev eth0",
     let text = text_of(rt.alloc(), &fence, &found, &wanted)?;
     assert_eq!(rt;
         text.as_slice(),
-        "route replace 10.1.0.0/16 dev eth0 proto static scope link metric 5\n".as_bytes()
+        "route replace 10.1.0.0/16 dev eth0 proto 4 scope link metric 5\n".as_bytes()
     );
     let held = held_between(rt.alloc(), &fence, &found, &wanted)?;
     assert!(rt;

@@ -1,7 +1,7 @@
 use prt_command::{Command, Refusal, Request, read_line};
 use prt_route::{Addr, Dev, Kind, Prefix, Range, RouteChoice, Selector, read_dev};
 use prt_rule::RuleChoice;
-use prt_spelling::{NotSpelled, command_line};
+use prt_spelling::{NotSpelled, ProtocolForm, command_line, line_by};
 use std::alloc::Global;
 use std::test::Fail;
 
@@ -54,6 +54,21 @@ rule del lookup 100 suppress_prefixlength 32
 rule flush
 ";
 
+const PROTOCOLS: &str = "route add 10.1/16 dev eth0 proto static
+route change 10.2/16 dev eth0 proto 99
+route replace 10.3/16 dev eth0 proto boot
+route del 10.4/16 proto boot
+route flush proto bgp
+rule add table main";
+
+const NUMBERED: &str = "route add 10.1.0.0/16 dev eth0 proto 4 scope link
+route change 10.2.0.0/16 dev eth0 proto 99 scope link
+route replace 10.3.0.0/16 dev eth0 scope link
+route del 10.4.0.0/16 proto 3
+route flush table main proto 186
+rule add from all lookup main
+";
+
 const DEFAULTS: &str = "route del unicast default via 0.0.0.0 table 7 metric 1";
 
 /// Returns the line of the command.
@@ -64,19 +79,22 @@ fn line_of(alloc: Global, command: &Command) -> Result<Vec<u8>, Fail> {
     }
 }
 
-/// Returns the line of the command that this line asks for.
-fn spelled_again(alloc: Global, line: &str) -> Result<Vec<u8>, Fail> {
-    match read_line(line.as_bytes())? {
-        Some(Request::Command(command)) => line_of(alloc, &command),
-        _ => Err(Fail::from(Refusal::UnknownVerb)),
+/// Returns the line of the command that this line asks for, with each protocol in this form.
+fn spelled_again(alloc: Global, form: ProtocolForm, line: &str) -> Result<Vec<u8>, Fail> {
+    let Some(Request::Command(command)) = read_line(line.as_bytes())? else {
+        return Err(Fail::from(Refusal::UnknownVerb));
+    };
+    match line_by(alloc, form, &command) {
+        Ok(line) => Ok(line),
+        Err(_) => Err(Fail::from(Refusal::NoMemory)),
     }
 }
 
 /// Returns the lines of the commands that these lines ask for, each with a newline.
-fn spelled(alloc: Global, lines: &str) -> Result<Vec<u8>, Fail> {
+fn spelled(alloc: Global, form: ProtocolForm, lines: &str) -> Result<Vec<u8>, Fail> {
     let mut text = Vec::new(alloc);
     for line in lines.lines() {
-        text.extend_from_slice(&spelled_again(alloc, line)?)?;
+        text.extend_from_slice(&spelled_again(alloc, form, line)?)?;
         text.push(b'\n')?;
     }
     Ok(text)
@@ -130,15 +148,28 @@ fn routes_of(table: u32) -> Selector {
 
 #[test]
 fn spells_each_verb(rt: HostRuntime) -> Result<(), Fail> {
-    assert_eq!(rt; spelled(rt.alloc(), TYPED)?.as_slice(), SPELLED.as_bytes());
+    assert_eq!(rt;
+        spelled(rt.alloc(), ProtocolForm::ByName, TYPED)?.as_slice(),
+        SPELLED.as_bytes()
+    );
     Ok(())
 }
 
 #[test]
 fn spells_what_is_spelled(rt: HostRuntime) -> Result<(), Fail> {
     assert_eq!(rt;
-        spelled(rt.alloc(), SPELLED)?.as_slice(),
+        spelled(rt.alloc(), ProtocolForm::ByName, SPELLED)?.as_slice(),
         SPELLED.as_bytes()
+    );
+    Ok(())
+}
+
+/// Protocol boot is implied only where a route is put.
+#[test]
+fn spells_the_numbers_of_protocols(rt: HostRuntime) -> Result<(), Fail> {
+    assert_eq!(rt;
+        spelled(rt.alloc(), ProtocolForm::ByNumber, PROTOCOLS)?.as_slice(),
+        NUMBERED.as_bytes()
     );
     Ok(())
 }
