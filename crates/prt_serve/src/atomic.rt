@@ -4,7 +4,7 @@ ghost use Rattle.prt_front.specs.Line.{Begins};
 ghost use Rattle.prt_replies.specs.Written.{Written};
 ghost use Rattle.prt_serve.specs.Opening.{HasLetGo};
 ghost use Rattle.prt_serve.specs.Resumed.{resumed_remaining};
-ghost use Rattle.prt_serve.specs.Together.{Comes, FileIs, FitsNumbers, ServesTogether, ToldIs, outcome_fault, outcome_refused, outcome_text};
+ghost use Rattle.prt_serve.specs.Together.{Comes, FailsToOpen, FileIs, FitsNumbers, ServesTogether, ToldIs, outcome_fault, outcome_refused, outcome_text};
 ghost use Rattle.prt_session.specs.Steps.{AreSubmittable};
 
 use crate::gate::Gate;
@@ -218,6 +218,45 @@ fn let_go<R: Read>(reader: &mut R, blocks: usize)
             Ok(_) => {}
         }
     }
+}
+
+/// Refuses an atomic file that is served too late, with `ReadFault`: nothing of it is made. Its input is read up to 64 MiB,
+/// and let go; it counts as one line.
+pub(crate) fn turn_away<
+    H: Wait + Clock,
+    S: Alter + Drop,
+    J: Naming,
+    G: Gate,
+    R: Read + Drop,
+    W: Write,
+>(
+    rt: &H,
+    service: &Service<S, J>,
+    looker: &mut Looker,
+    session: u64,
+    client: SocketAddr,
+    gate: &G,
+    mut reader: R,
+    writer: &mut W,
+) -> FileServed<R>
+    requires { (looker.old.known.book ≡ J.book) × (looker.old.known.base ≡ J.base) }
+    ensures of { (looker.new.known.book ≡ J.book) × (looker.new.known.base ≡ J.base) }
+    ensures offline { (looker.new.held ≡ None) × (looker.new.announced ≡ None) }
+    ensures unmade { FailsToOpen looker.old.known looker.new.known (R.remaining reader) (R.remaining result.reader)
+        (W.contents writer.old) (W.contents writer.new) result.end }
+{
+    looker.rest(rt, service);
+    let mut observer = FileGate {
+        gate,
+        session,
+        client,
+        line: 0,
+    };
+    observer.before(1);
+    let end = refuse(&observer, writer, Refusal::ReadFault);
+    // A connection that is closed before all its bytes are read may lose its reply.
+    let_go(&mut reader, MOST_BLOCKS);
+    FileServed { end, reader }
 }
 
 /// Serves one atomic file: reads its lines to the end, and then makes their commands together, or none of them.

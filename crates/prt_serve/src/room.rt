@@ -32,6 +32,10 @@ const BUSY: u64 = 5;
 /// How many milliseconds one whose client has spoken waits for a descriptor, if none is free.
 const PATIENCE: u64 = 1000;
 
+/// For how many seconds an atomic file waits for a worker, once its client has spoken. `prt` waits longer for the reply, so
+/// no file is made that it gave up before.
+const FILE_PATIENCE: u64 = 10;
+
 /// How many connections are handed to the workers between two looks.
 const TURN: usize = 64;
 
@@ -122,6 +126,14 @@ fn make_ready<T: OpenStream + Drop>(guest: Guest<T>, idle: Option<Duration>) -> 
     Ok(stream)
 }
 
+/// Computes until when a worker may begin with what such a client sends, who spoke at this time.
+fn until(kind: Kind, since: Duration) -> Option<Duration> {
+    match kind {
+        Kind::InTurn => None,
+        Kind::Together => Some(since.saturating_add(Duration::from_secs(FILE_PATIENCE))),
+    }
+}
+
 /// Makes a session of a connection and its second end, which is for writing.
 fn connected<T: Read + Write + OpenStream + Drop>(
     alloc: Global,
@@ -130,6 +142,7 @@ fn connected<T: Read + Write + OpenStream + Drop>(
     idle: Option<Duration>,
 ) -> io::Result<Connected<T>> {
     let (session, client, kind) = (guest.session, guest.client, guest.kind);
+    let until = until(kind, guest.since);
     let stream = make_ready(guest, idle)?;
     let Ends {
         lines,
@@ -140,6 +153,7 @@ fn connected<T: Read + Write + OpenStream + Drop>(
         session,
         client,
         kind,
+        until,
         reader: lines,
         writer: replies,
         pipeline: Some(pipeline),

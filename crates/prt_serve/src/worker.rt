@@ -6,7 +6,7 @@ ghost use Rattle.prt_serve.specs.Jobs.{ServesAll, ServesCounted};
 ghost use Rattle.prt_serve.specs.Serving.{Serves};
 ghost use Rattle.prt_serve.specs.Together.{ServesTogether};
 
-use crate::atomic::{FileServed, serve_atomic};
+use crate::atomic::{FileServed, serve_atomic, turn_away};
 use crate::connection::Pipeline;
 use crate::gate::Gate;
 use crate::session::serve_session;
@@ -18,7 +18,7 @@ use std::alloc::Global;
 use std::io::{Read, Write};
 use std::net::SocketAddr;
 use std::sync::{Arc, Wait};
-use std::time::Clock;
+use std::time::{Clock, Duration};
 
 /// How the commands of a connection are made.
 #[derive(Clone, Copy)]
@@ -37,6 +37,9 @@ pub struct Job<R: Read + Drop, W: Write + Drop> {
     /// Where its client is; 0.0.0.0:0 for one at a Unix socket.
     pub client: SocketAddr,
     pub kind: Kind,
+    /// Until when a worker may begin with an atomic file, by the clock that never goes back: its client may give up after
+    /// that. `None` is no limit, as a session has none.
+    pub until: Option<Duration>,
     pub reader: R,
     pub writer: W,
     /// What the two report of the connection, if they do.
@@ -85,7 +88,16 @@ fn serve_job<H: Wait + Clock, S: Alter + Drop, J: Naming, G: Gate, R: Read + Dro
     end
 }
 
-/// Serves the atomic file of a job, as `serve_atomic` does.
+/// Checks whether it is later than this. If the clock can't be read it isn't.
+fn is_past<H: Clock>(rt: &H, until: Option<Duration>) -> bool {
+    match (until, rt.monotonic()) {
+        (Some(until), Ok(now)) => now > until,
+        _ => false,
+    }
+}
+
+/// Serves the atomic file of a job, as `serve_atomic` does. If it is too late to begin, nothing of it is made, as if it
+/// could not be read.
 fn serve_together<
     H: Wait + Clock,
     S: Alter + Drop,
@@ -114,28 +126,43 @@ fn serve_together<
         session,
         client,
         kind,
+        until,
         reader,
         mut writer,
         pipeline,
     } = job;
     gate.begins(session);
-    let FileServed { end, reader } = serve_atomic(
-        rt,
-        alloc,
-        service,
-        looker,
-        session,
-        client,
-        gate,
-        reader,
-        &mut writer,
-    );
+    let FileServed { end, reader } = if is_past(rt, until) {
+        turn_away(
+            rt,
+            service,
+            looker,
+            session,
+            client,
+            gate,
+            reader,
+            &mut writer,
+        )
+    } else {
+        serve_atomic(
+            rt,
+            alloc,
+            service,
+            looker,
+            session,
+            client,
+            gate,
+            reader,
+            &mut writer,
+        )
+    };
     gate.ends(session);
     Served {
         job: Job {
             session,
             client,
             kind,
+            until,
             reader,
             writer,
             pipeline,

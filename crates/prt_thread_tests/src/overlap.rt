@@ -103,6 +103,7 @@ fn hand_over<H: Wait + Copy + Drop>(
         session,
         client: SocketAddr::from((Ipv4Addr::LOCALHOST, 0)),
         kind: Kind::InTurn,
+        until: None,
         reader: b"route get 10.0.0.1\n".as_slice(),
         writer: Client {
             rt,
