@@ -1,17 +1,23 @@
 -- What was asked of a source, and what was written of a text.
-use Rattle.std.proofs.Common.{◌≡◌, ◌⊎◌, ◌∙◌, arith, eqb-true, inl, inr, ℕ, true, List, [], ◌∷◌, ◌++◌, length, Option, Some, ap, append-nil, refl, sym}
-use Rattle.std.specs.Prelude.{◌==◌, false}
+use Rattle.std.proofs.Common.{◌≡◌, ◌⊎◌, ◌∙◌, arith, eqb-true, inl, inr, ℕ, true, List, [], ◌∷◌, ◌++◌, length, Option, Some, ap, append-nil, refl, subst, sym}
+use Rattle.std.specs.Prelude.{◌==◌, IfOk, Ok, Result, false}
 use Rattle.std.specs.Io.KnownBytes.{Appends}
 use Rattle.prt_words.specs.declared.server_place.ServerPlace.{ServerPlace}
 use Rattle.sqlite.specs.Held.{Held}
 use Rattle.sqlite.specs.Store.{Ghosts}
 use Rattle.prt_import.specs.Accepted.{IsExecuted}
 use Rattle.prt_import.specs.declared.accepted.Accepted.{Accepted}
+use Rattle.prt_ask.specs.Answers.{AreNotes, is_whole_change}
+use Rattle.prt_ask.specs.declared.answers.Answered.{Answered}
+use Rattle.prt_ask.specs.declared.notes.Notes.{Notes}
+use Rattle.prt_ask.specs.declared.question.Question.{Question}
+use Rattle.prt_ask.specs.declared.question.Question.TheVariants as questions
+use Rattle.prt_ask.specs.declared.refusal.NotAnswered.{NotAnswered}
 use Rattle.prt_replies.specs.Written.{Written}
 use Rattle.prt_version.specs.State.{State}
 use Rattle.prt_words.specs.declared.asking.Source.{Source}
 use Rattle.prt_words.specs.declared.asking.Source.TheVariants.{Database, Server, Script}
-use Rattle.prt_questions.specs.Asking.{IsAnswered, IsAnsweredAtMost, IsAskedOf, IsCutOff, IsNotAsked, IsReplied, IsRepliedAtMost, IsTold, called, said}
+use Rattle.prt_questions.specs.Asking.{IsAnswered, IsAnsweredAtMost, IsAskedOf, IsCutOff, IsNotAsked, IsQuery, IsReplied, IsRepliedAtMost, IsTold, IsWholeAnswer, called, said}
 use Rattle.prt_questions.specs.Sources.{Sources}
 use Rattle.prt_questions.specs.Told.{IsSaidOf, TellsOrReplies}
 use Rattle.prt_questions.specs.declared.inquiry.Inquiry.{Inquiry}
@@ -38,15 +44,15 @@ module _ {M S : Type 0} (g : Ghosts S) (opens : Wanted → M → M → List ℕ 
   nothing_said : (text before lines : List ℕ) → Appends (Some before) (Some lines) text → before ≡ [] → lines ≡ [] → text ≡ []
   nothing_said text before lines appended begun empty = sym (ap (λ xs. xs ++ text) begun) ∙ sym appended ∙ empty
 
-  pub says_nothing : (source : Source) (says : State → List ℕ) (before lines : List ℕ) → before ≡ [] → lines ≡ []
-      → IsAnswered g opens refuses closes from old new (Some before) (Some lines) source says → IsAskedOf g opens refuses closes from old new source (λ state. says state ≡ [])
-  says_nothing (Script file) says before lines begun empty answered =
-      (answered.0, answered.1, answered.2, answered.3, answered.4, nothing_said (says answered.1.version) before lines answered.6 begun empty)
-  says_nothing (Database path) says before lines begun empty answered =
-      asked_more (Database path) (λ state. Appends (Some before) (Some lines) (says state)) (λ state. says state ≡ [])
-      (λ state appended. nothing_said (says state) before lines appended begun empty) answered
-  says_nothing (Server place) says before lines begun empty answered =
-      (answered.0, answered.1, answered.2, nothing_said (says answered.1) before lines answered.3 begun empty)
+  pub says_nothing : (source : Source) (says : State → List ℕ) (IsWhole : State → Type 0) (before lines : List ℕ) → before ≡ [] → lines ≡ []
+      → IsAnswered g opens refuses closes from old new (Some before) (Some lines) source says IsWhole → IsAskedOf g opens refuses closes from old new source (λ state. (says state ≡ []) × IsWhole state)
+  says_nothing (Script file) says IsWhole before lines begun empty answered =
+      (answered.0, answered.1, answered.2, answered.3, answered.4, (nothing_said (says answered.1.version) before lines answered.6 begun empty, answered.7))
+  says_nothing (Database path) says IsWhole before lines begun empty answered =
+      asked_more (Database path) (λ state. Appends (Some before) (Some lines) (says state) × IsWhole state) (λ state. (says state ≡ []) × IsWhole state)
+      (λ state is. (nothing_said (says state) before lines is.0 begun empty, is.1)) answered
+  says_nothing (Server place) says IsWhole before lines begun empty answered =
+      (answered.0, answered.1, answered.2, (nothing_said (says answered.1) before lines answered.3.0 begun empty, answered.3.1))
 
   -- whether it was asked, whatever was written
   pub asked_or_not : (source : Source) (says : State → List ℕ) (writer0 writer : Option (List ℕ)) → IsAnsweredAtMost g opens refuses closes from old new writer0 writer source says
@@ -77,13 +83,33 @@ pub of_server : {M : Type 0} (machine : M) (tells : State → Type 0) (writer0 w
 of_server machine tells writer0 writer says (inl same) = inl (refl, same)
 of_server machine tells writer0 writer says (inr told) = inr (refl, told.0, told.1, told.2)
 
+-- the answer of a query is whole
+query_is_whole : (question : Question) (state : State) → IsQuery question → IsWholeAnswer question state
+query_is_whole (questions.Query query form) state is = tt
+query_is_whole (questions.Explain packet form) state is = tt
+query_is_whole (questions.Dump form) state is = tt
+query_is_whole questions.Replace state is = absurd is
+query_is_whole (questions.Diff comparison) state is = absurd is
+
+whole_by : (question : Question) (state : State) (notes : Notes) → AreNotes question state notes → is_whole_change notes ≡ true → IsWholeAnswer question state
+whole_by (questions.Query query form) state notes are is = tt
+whole_by (questions.Explain packet form) state notes are is = tt
+whole_by (questions.Dump form) state notes are is = tt
+whole_by questions.Replace state notes are is = (notes, are, is)
+whole_by (questions.Diff comparison) state notes are is = (notes, are, is)
+
+-- and any answer whose notes say so
+pub whole_answer : (question : Question) (state : State) (answered : Result Answered NotAnswered) → IfOk answered (λ made. AreNotes question state made.notes)
+    → ((made : Answered) × (answered ≡ Ok made) × (is_whole_change made.notes ≡ true)) → IsWholeAnswer question state
+whole_answer question state answered are is = whole_by question state is.0.notes (subst (λ result. IfOk result (λ made. AreNotes question state made.notes)) is.1 are) is.2
+
 -- what a server said and was written, of its tables or by a session
 module _ {M S : Type 0} (g : Ghosts S) (opens : Wanted → M → M → List ℕ → Held S → Type 0) (refuses : Wanted → M → M → List ℕ → Type 0) (closes : M → M → Held S → Type 0) (from : Sources) (machine : M) (writer0 writer : Option (List ℕ)) where
-  pub told_whole : (place : ServerPlace) (line : List ℕ) (inquiry : Inquiry) (text : List ℕ) → IsTold (from.tells place) (from.replies place line) inquiry text → Appends writer0 writer text
-      → IsAnswered g opens refuses closes from machine machine writer0 writer (Server place) (said inquiry)
+  pub told_whole : (place : ServerPlace) (line : List ℕ) (inquiry : Inquiry) (text : List ℕ) → IsQuery inquiry.question → IsTold (from.tells place) (from.replies place line) inquiry text → Appends writer0 writer text
+      → IsAnswered g opens refuses closes from machine machine writer0 writer (Server place) (said inquiry) (IsWholeAnswer inquiry.question)
       ⊎ IsReplied g opens refuses closes from machine machine writer0 writer (Server place) line (called inquiry.labels inquiry.form (names_of inquiry.names.now))
-  told_whole place line inquiry text (inl (told, tells, is)) appended = inl (refl, told, tells, rw (sym is) appended)
-  told_whole place line inquiry text (inr (reply, replies, is)) appended = inr (refl, reply, replies, rw (sym is) appended)
+  told_whole place line inquiry text query (inl (told, tells, is)) appended = inl (refl, told, tells, (rw (sym is) appended, query_is_whole inquiry.question told query))
+  told_whole place line inquiry text query (inr (reply, replies, is)) appended = inr (refl, reply, replies, rw (sym is) appended)
 
   pub told_at_most : (place : ServerPlace) (line : List ℕ) (inquiry : Inquiry) → (writer ≡ writer0) ⊎ ((text : List ℕ) × IsTold (from.tells place) (from.replies place line) inquiry text × IsCutOff text writer0 writer)
       → IsAnsweredAtMost g opens refuses closes from machine machine writer0 writer (Server place) (said inquiry)

@@ -16,7 +16,7 @@ use Rattle.prt_words.specs.declared.asking.Shown.TheVariants.{Impact, Lines, Sta
 use Rattle.prt_words.specs.declared.asking.Source.{Source}
 use Rattle.prt_words.specs.declared.asking.Source.TheVariants.{Database, Server, Script}
 use Rattle.prt_questions.specs.Analyses.{IsAsserted, IsAssertedAtMost, IsNotRead, IsRehearsed, IsRehearsedAtMost, IsStopped, Rehearsed, sameness_of}
-use Rattle.prt_questions.specs.Asking.{IsAnswered, IsAnsweredAtMost, IsAskedOf, IsCutOff, IsShown, IsShownAtMost, IsWithImpact}
+use Rattle.prt_questions.specs.Asking.{IsAnswered, IsAnsweredAtMost, IsAskedOf, IsCutOff, IsShown, IsShownAtMost, IsWholeChange, IsWithImpact}
 use Rattle.prt_questions.specs.Sources.{HasLeft, IsRead, Sources, after, path_of}
 use Rattle.prt_questions.specs.declared.machine.Wanted.{Wanted}
 
@@ -69,10 +69,10 @@ module _ {M S : Type 0} (g : Ghosts S) (opens : Wanted → M → M → List ℕ 
 
   module _ (writer0 writer : Option (List ℕ)) where
     -- and what was answered
-    pub answered_later : (source : Source) (says : State → List ℕ) → IsAnswered g opens refuses closes (record from { input = input }) old new writer0 writer source says → IsAnswered g opens refuses closes (after rest from) old new writer0 writer source says
-    answered_later (Database path) says answered = answered
-    answered_later (Server place) says answered = answered
-    answered_later (Script file) says answered = (answered.0, answered.1, answered.2, later from.files rest from.input input left (path_of file) answered.2 answered.3, answered.4, answered.5, answered.6)
+    pub answered_later : (source : Source) (says : State → List ℕ) (IsWhole : State → Type 0) → IsAnswered g opens refuses closes (record from { input = input }) old new writer0 writer source says IsWhole → IsAnswered g opens refuses closes (after rest from) old new writer0 writer source says IsWhole
+    answered_later (Database path) says IsWhole answered = answered
+    answered_later (Server place) says IsWhole answered = answered
+    answered_later (Script file) says IsWhole answered = (answered.0, answered.1, answered.2, later from.files rest from.input input left (path_of file) answered.2 answered.3, answered.4, answered.5, answered.6, answered.7)
 
     pub answered_at_most_later : (source : Source) (says : State → List ℕ) → IsAnsweredAtMost g opens refuses closes (record from { input = input }) old new writer0 writer source says → IsAnsweredAtMost g opens refuses closes (after rest from) old new writer0 writer source says
     answered_at_most_later source says (inl not_asked) = inl not_asked
@@ -80,9 +80,9 @@ module _ {M S : Type 0} (g : Ghosts S) (opens : Wanted → M → M → List ℕ 
 
     -- and what was shown of a difference
     pub shown_later : (shown : Shown) (fence : Fence) (found : State) (source : Source) → IsShown g opens refuses closes (record from { input = input }) old new writer0 writer fence found shown source → IsShown g opens refuses closes (after rest from) old new writer0 writer fence found shown source
-    shown_later Lines fence found source is = answered_later source (changes_text fence found) is
-    shown_later Impact fence found source is = asked_later source (λ state. (text : List ℕ) × IsWithImpact fence found state text × Appends writer0 writer text) is
-    shown_later Status fence found source is = (is.0, asked_later source (λ state. changes_text fence found state ≡ []) is.1)
+    shown_later Lines fence found source is = answered_later source (changes_text fence found) (IsWholeChange fence found) is
+    shown_later Impact fence found source is = asked_later source (λ state. (text : List ℕ) × IsWithImpact fence found state text × Appends writer0 writer text × IsWholeChange fence found state) is
+    shown_later Status fence found source is = (is.0, asked_later source (λ state. (changes_text fence found state ≡ []) × IsWholeChange fence found state) is.1)
 
     pub shown_at_most_later : (shown : Shown) (fence : Fence) (found : State) (source : Source) → IsShownAtMost g opens refuses closes (record from { input = input }) old new writer0 writer fence found shown source → IsShownAtMost g opens refuses closes (after rest from) old new writer0 writer fence found shown source
     shown_at_most_later Lines fence found source is = answered_at_most_later source (changes_text fence found) is

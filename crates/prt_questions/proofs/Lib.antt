@@ -2,6 +2,8 @@ pub mod Alone
 mod Asked
 mod Comments
 mod Followed
+mod Picked
+mod QueryLines
 mod ReadTables
 mod Rehearsals
 mod Applied

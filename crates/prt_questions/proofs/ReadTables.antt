@@ -15,8 +15,8 @@ use Rattle.prt_words.specs.declared.server_place.ServerPlace.{ServerPlace}
 use Rattle.prt_words.specs.declared.asking.Source.TheVariants.{Database, Script, Server}
 use Rattle.prt_words.specs.declared.fault.TheConstants.{DONE}
 use Rattle.prt_questions.specs.Analyses.{HaveTables, IsFoundOf, IsNotRead}
-use Rattle.prt_questions.specs.Asking.{AreKernels, HasCompared, HasComparedAtMost, IsAskedOf, IsListing, IsShown, IsShownAtMost, IsWholeListing}
-use Rattle.prt_questions.specs.Fencing.{IsFenceOf}
+use Rattle.prt_questions.specs.Asking.{HasCompared, HasComparedAtMost, IsAskedOf, IsFenced, IsShown, IsShownAtMost, IsWholeFenced}
+use Rattle.prt_questions.specs.LeftOut.{AreKernels}
 use Rattle.prt_questions.specs.Sources.{Gives, Sources, after, path_of, rest_after}
 use Rattle.prt_questions.specs.declared.machine.Wanted.{Wanted}
 use Rattle.prt_questions.specs.declared.tables.Tables.{Tables}
@@ -60,23 +60,15 @@ module _ {M S : Type 0} (g : Ghosts S) (opens : Wanted → M → M → List ℕ 
 
 -- What was shown of a difference from a listing.
 module _ {M S : Type 0} (g : Ghosts S) (opens : Wanted → M → M → List ℕ → Held S → Type 0) (refuses : Wanted → M → M → List ℕ → Type 0) (closes : M → M → Held S → Type 0) (from : Sources) (old new : M) (writer0 writer : Option (List ℕ)) (file : Option Word) (reach : Reach) (source : Source) where
-  compared_of : (shown : Shown) (fence : Fence) (accepted : Accepted) → IsWholeListing (Gives from file) accepted → IsFenceOf reach fence
-      → IsShown g opens refuses closes (after (rest_after file) from) old new writer0 writer fence accepted.version shown source → HasCompared g opens refuses closes from old new writer0 writer file reach shown source
-  compared_of Lines fence accepted listing is shows = (accepted, listing, fence, is, shows)
-  compared_of Impact fence accepted listing is shows = (accepted, listing, fence, is, shows)
-  compared_of Status fence accepted listing is shows = (accepted, listing, fence, is, shows.0, shows.1)
-
-  pub compared : (shown : Shown) (fence : Fence) (found : State) → ((accepted : Accepted) × IsWholeListing (Gives from file) accepted × (found ≡ accepted.version)) → IsFenceOf reach fence
+  pub compared : (shown : Shown) (found : State) (fence : Fence) → IsWholeFenced (Gives from file) reach found fence
       → IsShown g opens refuses closes (after (rest_after file) from) old new writer0 writer fence found shown source → HasCompared g opens refuses closes from old new writer0 writer file reach shown source
-  compared shown fence found listing is shows = compared_of shown fence listing.0 listing.1 is (subst (λ state. IsShown g opens refuses closes (after (rest_after file) from) old new writer0 writer fence state shown source) listing.2 shows)
+  compared Lines found fence is shows = (found, fence, is, shows)
+  compared Impact found fence is shows = (found, fence, is, shows)
+  compared Status found fence is shows = (found, fence, is, shows.0, shows.1)
 
-  compared_at_most_of : (shown : Shown) (fence : Fence) (accepted : Accepted) → IsListing (Gives from file) accepted → IsFenceOf reach fence
-      → IsShownAtMost g opens refuses closes (after (rest_after file) from) old new writer0 writer fence accepted.version shown source → HasComparedAtMost g opens refuses closes from old new writer0 writer file reach shown source
-  compared_at_most_of Lines fence accepted listing is shows = inr (accepted, listing, fence, is, shows)
-  compared_at_most_of Impact fence accepted listing is (inl same) = inl same
-  compared_at_most_of Impact fence accepted listing is (inr asked) = inr (accepted, listing, fence, is, asked)
-  compared_at_most_of Status fence accepted listing is shows = shows
-
-  pub compared_at_most : (shown : Shown) (fence : Fence) (found : State) → ((accepted : Accepted) × IsListing (Gives from file) accepted × (found ≡ accepted.version)) → IsFenceOf reach fence
+  pub compared_at_most : (shown : Shown) (found : State) (fence : Fence) → IsFenced (Gives from file) reach found fence
       → IsShownAtMost g opens refuses closes (after (rest_after file) from) old new writer0 writer fence found shown source → HasComparedAtMost g opens refuses closes from old new writer0 writer file reach shown source
-  compared_at_most shown fence found listing is shows = compared_at_most_of shown fence listing.0 listing.1 is (subst (λ state. IsShownAtMost g opens refuses closes (after (rest_after file) from) old new writer0 writer fence state shown source) listing.2 shows)
+  compared_at_most Lines found fence is shows = inr (found, fence, is, shows)
+  compared_at_most Impact found fence is (inl same) = inl same
+  compared_at_most Impact found fence is (inr asked) = inr (found, fence, is, asked)
+  compared_at_most Status found fence is shows = shows

@@ -10,7 +10,8 @@ use Rattle.prt_version.specs.State.{State}
 use Rattle.prt_words.specs.declared.analysis.Rehearsing.{Rehearsing}
 use Rattle.prt_words.specs.declared.fault.TheConstants.{DONE}
 use Rattle.prt_questions.specs.Analyses.{IsRehearsed, IsRehearsedAtMost, impact_text, sameness_of}
-use Rattle.prt_questions.specs.Asking.{AreKernels, IsCutOff}
+use Rattle.prt_questions.specs.Asking.{IsCutOff}
+use Rattle.prt_questions.specs.LeftOut.{AreKernels}
 use Rattle.prt_questions.specs.declared.asking.TheConstants.{REFUSED}
 
 -- lines were refused

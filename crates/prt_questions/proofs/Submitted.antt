@@ -59,6 +59,10 @@ script_read gives read bytes reader writer0 writer given is = (
 
 -- ---- the reply
 
+pub many_of : (commands : List Command) → commands ≢ [] → 1 ≤ length commands
+many_of [] some = absurd (some refl)
+many_of (command ∷ commands) some = omega arith
+
 one_at_end : (told : List Reply) (reply : Reply) → told ++ reply ∷ [] ≡ [] → ⊥
 one_at_end [] reply e = cons_not_nil reply [] e
 one_at_end (first ∷ told) reply e = cons_not_nil first (told ++ reply ∷ []) e

@@ -1,5 +1,5 @@
 -- What a reader of a connection that has read nothing yet gives.
-use Rattle.std.proofs.Common.{◌≡◌, ◌∙◌, IfOk, IfSome, ℕ, List, [], Option, Some, None, Result, Ok, Err, ap, refl, sym, subst}
+use Rattle.std.proofs.Common.{◌≡◌, ◌≢◌, ◌∙◌, ◌∷◌, IfOk, IfSome, zero, suc, ℕ, List, [], Option, Some, None, Result, Ok, Err, ap, length, refl, sym, subst, take}
 use Rattle.std.specs.Prelude.{◌==◌, if◌then◌else◌, ◌++◌, codes}
 use Rattle.std.specs.Io.Buffered.{reader_buffer, reader_capacity, reader_inner, reader_remaining}
 use Rattle.std.specs.Io.KnownBytes.{Consumes, Keeps, prepend_known}
@@ -54,20 +54,28 @@ all_of (Some xs) None P kept all = absurd kept
 
 -- what was read over a connection, over which a line was sent
 told_in : {N Stream : Type 0} (reaches : N → ServerPlace → Socket → List ℕ → Stream → Type 0) (said : Stream → Option (List ℕ)) (net : N) (place : ServerPlace) (line : List ℕ) (stream : Stream) → IsReached reaches net place (line ++ codes "\n") stream
-    → (known : Option (List ℕ)) → known ≡ said stream → (told : Told) → IsToldIn known told → IsToldBy reaches said net place line told
-told_in reaches said net place line stream reached known is (Tables version) read = record {
+    → (known : Option (List ℕ)) → Keeps (said stream) known → (told : Told) → IsToldIn known told → IsToldBy reaches said net place line told
+told_in reaches said net place line stream reached known kept (Tables version) read = record {
   socket = reached.0;
   sent = line ++ codes "\n";
   stream = stream;
   reached = reached.1;
   rest = read.0;
   opening = read.1.0;
-  read = subst (λ bytes. IsOpening bytes read.0 read.1.0) is read.1.1;
+  read = opening_of (said stream) known read.0 read.1.0 kept read.1.1;
   spelled = read.1.2;
 }
-told_in reaches said net place line stream reached known is (Reply reply) read = (reached.0, stream, reached.1, subst (λ bytes. IfSome bytes (λ all. reply.items ≡ all)) is read)
+told_in reaches said net place line stream reached known kept (Reply reply) read = (reached.0, stream, reached.1, all_of (said stream) known (λ all. reply.items ≡ all) kept read)
 
 pub told_by : {N Stream E : Type 0} (reaches : N → ServerPlace → Socket → List ℕ → Stream → Type 0) (said : Stream → Option (List ℕ)) (net : N) (place : ServerPlace) (line : List ℕ) (stream : Stream) → IsReached reaches net place (line ++ codes "\n") stream
-    → (known : Option (List ℕ)) → known ≡ said stream → (result : Result Told E) → IfOk result (IsToldIn known) → IfOk result (IsToldBy reaches said net place line)
-told_by reaches said net place line stream reached known is (Ok told) read = told_in reaches said net place line stream reached known is told read
-told_by reaches said net place line stream reached known is (Err reason) read = tt
+    → (first known : Option (List ℕ)) → first ≡ said stream → Keeps first known → (result : Result Told E) → IfOk result (IsToldIn known) → IfOk result (IsToldBy reaches said net place line)
+told_by reaches said net place line stream reached first known is kept (Ok told) read = told_in reaches said net place line stream reached known (subst (λ bytes. Keeps bytes known) is kept) told read
+told_by reaches said net place line stream reached first known is kept (Err reason) read = tt
+
+-- bytes that came were there
+pub some_came : (a b : Option (List ℕ)) (count : ℕ) (buffer : List ℕ) → Consumes a b (take count buffer) → count ≢ 0 → length buffer ≡ 1 → IfSome a (λ all. all ≢ [])
+some_came None b count buffer taken some one = tt
+some_came (Some xs) None count buffer taken some one = absurd taken
+some_came (Some xs) (Some ys) zero buffer taken some one = absurd (some refl)
+some_came (Some xs) (Some ys) (suc n) [] taken some one = absurd (cc)
+some_came (Some xs) (Some ys) (suc n) (byte ∷ bytes) taken some one = λ none. let empty = sym taken ∙ none in absurd (cc)

@@ -31,7 +31,8 @@ use Rattle.prt_words.specs.declared.asking.Form.TheVariants.{Json, Lines}
 use Rattle.prt_words.specs.declared.asking.Source.{Source}
 use Rattle.prt_words.specs.declared.asking.Source.TheVariants.{Script}
 use Rattle.prt_words.specs.declared.fault.TheConstants.{DONE}
-use Rattle.prt_questions.specs.Asking.{AreKernels, IsAskedOf, IsCutOff, IsNotAsked, is_kernels}
+use Rattle.prt_questions.specs.Asking.{IsAskedOf, IsCutOff, IsNotAsked}
+use Rattle.prt_questions.specs.LeftOut.{AreKernels, is_kernels}
 use Rattle.prt_questions.specs.Sources.{Gives, Sources, path_of}
 use Rattle.prt_questions.specs.declared.asking.TheConstants.{REFUSED}
 use Rattle.prt_questions.specs.declared.machine.Wanted.{Wanted}

@@ -23,8 +23,9 @@ use Rattle.prt_words.specs.declared.server_place.ServerPlace.{ServerPlace}
 use Rattle.prt_words.specs.declared.service.Applying.{Applying}
 use Rattle.prt_words.specs.declared.service.Target.{Target}
 use Rattle.prt_words.specs.declared.service.Target.TheVariants.{Database, Server}
-use Rattle.prt_questions.specs.Asking.{AreKernels, IsCutOff, IsNotOpened, comments_of}
+use Rattle.prt_questions.specs.Asking.{IsCutOff, IsNotOpened, comments_of}
 use Rattle.prt_questions.specs.Closing.{IsClosedAgain}
+use Rattle.prt_questions.specs.LeftOut.{AreKernels}
 use Rattle.prt_questions.specs.Sources.{Gives, Sources, path_of}
 use Rattle.prt_questions.specs.Submitting.{AreMadeInParts}
 use Rattle.prt_questions.specs.declared.machine.Wanted.{Wanted}

@@ -1,14 +1,15 @@
 -- What comes of a question.
-use Rattle.std.specs.Prelude.{◌≡◌, ◌⊎◌, ℕ, Bool, true, false, List, [], ◌++◌, Ok, Option, Some, None, codes, flat_map, option_map}
-use Rattle.std.specs.List.{list_all}
+use Rattle.std.specs.Prelude.{◌≡◌, ◌⊎◌, ◌||◌, ℕ, Bool, true, false, List, [], ◌++◌, Ok, Option, Some, None, codes, flat_map, nat_eq, option_map}
+use Rattle.std.specs.List.{list_any, starts_with}
 use Rattle.std.specs.Io.KnownBytes.{Appends}
 use Rattle.sqlite.specs.Held.{Held}
 use Rattle.sqlite.specs.Store.{Ghosts}
 use Rattle.prt_addr.specs.Word.{Word}
 use Rattle.prt_addr.specs.declared.addr.Addr.{Addr}
-use Rattle.prt_ask.specs.Answers.{answer}
+use Rattle.prt_ask.specs.Answers.{AreNotesOf, AreNotesOfReplacing, answer, is_whole_change}
 use Rattle.prt_ask.specs.Mirrors.{mirror_of, steps_text}
 use Rattle.prt_ask.specs.Questions.{question}
+use Rattle.prt_ask.specs.declared.notes.Notes.{Notes}
 use Rattle.prt_ask.specs.declared.question.Question.{Question}
 use Rattle.prt_ask.specs.declared.question.Question.TheVariants as questions
 use Rattle.prt_command.specs.declared.request.Command.{Command}
@@ -20,6 +21,7 @@ use Rattle.prt_impact.specs.Text.{group_text}
 use Rattle.prt_impact.specs.declared.group.Group.{Group}
 use Rattle.prt_import.specs.Accepted.{IsExecuted, IsExecutedOver}
 use Rattle.prt_import.specs.Imported.{IsImportOf}
+use Rattle.prt_import.specs.Lines.{lines_of}
 use Rattle.prt_import.specs.Listed.{listing_fault}
 use Rattle.prt_import.specs.Naming.{with_names}
 use Rattle.prt_import.specs.TableNames.{KnownNames, TableNames, names_of}
@@ -28,8 +30,6 @@ use Rattle.prt_import.specs.declared.imported.Imported.{Imported}
 use Rattle.prt_import.specs.declared.left.Left.{Left}
 use Rattle.prt_import.specs.declared.naming.Text.{Text}
 use Rattle.prt_import.specs.declared.naming.Text.TheVariants as forms
-use Rattle.prt_import.specs.declared.reason.Reason.{Reason}
-use Rattle.prt_import.specs.declared.reason.Reason.TheVariants.{Kernel}
 use Rattle.prt_ip_json.specs.Documents.{documents, is_json}
 use Rattle.prt_ip_json.specs.Listing.{listing}
 use Rattle.prt_partition.specs.declared.sameness.Sameness.TheVariants.{Outcomes}
@@ -51,6 +51,7 @@ use Rattle.prt_words.specs.declared.reach.Reach.{Reach}
 use Rattle.prt_words.specs.declared.server_place.ServerPlace.{ServerPlace}
 use Rattle.prt_questions.specs.Fencing.{IsFenceOf}
 use Rattle.prt_questions.specs.Closing.{IsClosedAgain, LeavesNoneOpen}
+use Rattle.prt_questions.specs.LeftOut.{AreKernels, is_kernels}
 use Rattle.prt_questions.specs.Sources.{Gives, Sources, after, path_of, rest_after}
 use Rattle.prt_questions.specs.declared.inquiry.Inquiry.{Inquiry}
 use Rattle.prt_questions.specs.declared.machine.Wanted.{Wanted}
@@ -83,6 +84,16 @@ abbrev pub IsQuery : Question → Type 0
 IsQuery (questions.Query query InLines) = Unit {0}
 IsQuery question = ⊥
 
+-- the lines that bring a found state to another within a fence leave no rule that should go, and hold nothing back
+abbrev pub IsWholeChange : Fence → (found wanted : State) → Type 0
+IsWholeChange fence found wanted = (notes : Notes) × AreNotesOf fence found wanted notes × (is_whole_change notes ≡ true)
+
+-- the same of an answer that is such lines; lines that replace leave out no rule and no route
+abbrev pub IsWholeAnswer : Question → State → Type 0
+IsWholeAnswer (questions.Diff comparison) state = IsWholeChange comparison.fence.now comparison.found.now state
+IsWholeAnswer questions.Replace state = (notes : Notes) × AreNotesOfReplacing state notes × (is_whole_change notes ≡ true)
+IsWholeAnswer question state = Unit {0}
+
 -- the destination of the packet that is asked about, if one is
 abbrev pub destination_of : Question → Option Addr
 destination_of (questions.Query (Get packet) form) = Some packet.dst
@@ -97,41 +108,52 @@ AreLinesOf text lines =
     ((is_json text ≡ true) × (option_map listing (documents text) ≡ Some lines))
     ⊎ ((is_json text ≡ false) × (lines ≡ text))
 
--- What a new database accepts of the script of lines, with some names of tables.
-pub record IsMadeOf (lines : List ℕ) (accepted : Accepted) : Type 0 where
+-- What a new database accepts of the script of lines, with some names of tables, and the lines that can't be kept.
+pub record IsMadeOf (lines : List ℕ) (left : List Left) (accepted : Accepted) : Type 0 where
   pub names : KnownNames
   pub imported : Imported
   pub is_of : IsImportOf imported names lines
+  pub are_left : left ≡ imported.left.items
   pub executed : IsExecuted accepted imported.script.items
 
--- What one accepts of a text that was read, and that may be taken as a whole listing.
-pub record IsListing (reads : List ℕ → Type 0) (accepted : Accepted) : Type 0 where
+-- a line of a script that adds a rule or a route
+abbrev pub adds : List ℕ → Bool
+adds line = starts_with nat_eq line (codes "rule add ") || starts_with nat_eq line (codes "route add ")
+
+-- some line of a listing is known: a rule or a route of it is kept, or the kernel makes one itself
+abbrev pub is_any_known : List Left → Accepted → Bool
+is_any_known left accepted = list_any adds (lines_of accepted.script.items) || list_any is_kernels left
+
+-- What one accepts of a text that was read, and that may be taken as a whole listing, of which some line is known; and the
+-- lines that can't be kept.
+pub record IsListing (reads : List ℕ → Type 0) (left : List Left) (accepted : Accepted) : Type 0 where
   pub text : List ℕ
   pub read : reads text
   pub lines : List ℕ
   pub are : AreLinesOf text lines
   pub whole : listing_fault lines ≡ None
-  pub made : IsMadeOf lines accepted
+  pub made : IsMadeOf lines left accepted
+  pub known : is_any_known left accepted ≡ true
 
-abbrev pub is_kernel : Reason → Bool
-is_kernel Kernel = true
-is_kernel reason = false
-
--- the kernel makes a line itself
-abbrev pub is_kernels : Left → Bool
-is_kernels line = is_kernel line.reason
-
--- no line is left out except those
-abbrev pub AreKernels : List Left → Type 0
-AreKernels lines = list_all is_kernels lines ≡ true
-
--- all of them are kept
-abbrev pub AreKept : (lines : List ℕ) → (accepted : Accepted) → Type 0
-AreKept lines accepted = (made : IsMadeOf lines accepted) × AreKernels made.imported.left.items × AreKernels accepted.left.items
+-- all lines are kept
+abbrev pub AreKept : List Left → Accepted → Type 0
+AreKept left accepted = AreKernels left × AreKernels accepted.left.items
 
 -- a listing that is kept
 abbrev pub IsWholeListing : (reads : List ℕ → Type 0) → Accepted → Type 0
-IsWholeListing reads accepted = (text : List ℕ) × reads text × (lines : List ℕ) × AreLinesOf text lines × (listing_fault lines ≡ None) × AreKept lines accepted
+IsWholeListing reads accepted = (left : List Left) × IsListing reads left accepted × AreKept left accepted
+
+-- What a listing makes, and the fence that words name beside its lines that can't be kept.
+pub record IsFenced (reads : List ℕ → Type 0) (reach : Reach) (found : State) (fence : Fence) : Type 0 where
+  pub accepted : Accepted
+  pub left : List Left
+  pub listing : IsListing reads left accepted
+  pub is_fence : IsFenceOf reach left fence
+  pub makes : found ≡ accepted.version
+
+-- of a listing that is kept
+abbrev pub IsWholeFenced : (reads : List ℕ → Type 0) → Reach → (found : State) → Fence → Type 0
+IsWholeFenced reads reach found fence = (fenced : IsFenced reads reach found fence) × AreKept fenced.left fenced.accepted
 
 -- ---- the packets that a difference sends another way
 
@@ -163,16 +185,16 @@ follow_text fence found wanted commands = changes_text fence found wanted ++ ste
 -- a listing that is kept was brought to the tables that a feed reported
 abbrev pub HasFollowed : Sources → (writer0 writer : Option (List ℕ)) → Option Word → ServerPlace → Reach → Type 0
 HasFollowed from writer0 writer file place reach =
-    (accepted : Accepted) × IsWholeListing (Gives from file) accepted × (fence : Fence) × IsFenceOf reach fence × (told : State) × from.tells place told
-    × Appends writer0 writer (changes_text fence accepted.version told)
+    (found : State) × (fence : Fence) × IsWholeFenced (Gives from file) reach found fence × (told : State) × from.tells place told
+    × Appends writer0 writer (changes_text fence found told) × IsWholeChange fence found told
 
 -- In any case: nothing was written, or at most a part of the lines. These are for the tables that a feed reported, and for the
 -- commands that it reported in turn.
 abbrev pub HasFollowedAtMost : Sources → (writer0 writer : Option (List ℕ)) → Option Word → ServerPlace → Reach → Type 0
 HasFollowedAtMost from writer0 writer file place reach =
     (writer ≡ writer0)
-    ⊎ ((accepted : Accepted) × IsListing (Gives from file) accepted × (fence : Fence) × IsFenceOf reach fence × (told : State) × from.tells place told × (commands : List Command)
-    × from.feeds place told commands × IsAccepted told commands × Written false writer0 writer (follow_text fence accepted.version told commands))
+    ⊎ ((found : State) × (fence : Fence) × IsFenced (Gives from file) reach found fence × (told : State) × from.tells place told × (commands : List Command)
+    × from.feeds place told commands × IsAccepted told commands × Written false writer0 writer (follow_text fence found told commands))
 
 -- ---- what was done
 
@@ -198,10 +220,11 @@ module _ {M S : Type 0} (g : Ghosts S) (opens : Wanted → M → M → List ℕ 
   IsAskedOf (Script file) Holds = (new ≡ old) × (made : Accepted) × (text : List ℕ) × Gives from (path_of file) text × IsExecuted made text × Holds made.version
 
 module _ {M S : Type 0} (g : Ghosts S) (opens : Wanted → M → M → List ℕ → Held S → Type 0) (refuses : Wanted → M → M → List ℕ → Type 0) (closes : M → M → Held S → Type 0) (from : Sources) (old new : M) (writer0 writer : Option (List ℕ)) where
-  -- all that the state at a source says was written, and no line of a script was left out, except what the kernel makes itself
-  abbrev pub IsAnswered : Source → (says : State → List ℕ) → Type 0
-  IsAnswered (Script file) says = (new ≡ old) × (made : Accepted) × (text : List ℕ) × Gives from (path_of file) text × IsExecuted made text × AreKernels made.left.items × Appends writer0 writer (says made.version)
-  IsAnswered source says = IsAskedOf g opens refuses closes from old new source (λ state. Appends writer0 writer (says state))
+  -- all that the state at a source says was written, and this is whole; no line of a script was left out, except what the kernel
+  -- makes itself
+  abbrev pub IsAnswered : Source → (says : State → List ℕ) → (IsWhole : State → Type 0) → Type 0
+  IsAnswered (Script file) says IsWhole = (new ≡ old) × (made : Accepted) × (text : List ℕ) × Gives from (path_of file) text × IsExecuted made text × AreKernels made.left.items × Appends writer0 writer (says made.version) × IsWhole made.version
+  IsAnswered source says IsWhole = IsAskedOf g opens refuses closes from old new source (λ state. Appends writer0 writer (says state) × IsWhole state)
 
   -- in any case: it was not asked, and nothing was written; or it was, and a part at most
   abbrev pub IsAnsweredAtMost : Source → (says : State → List ℕ) → Type 0
@@ -223,7 +246,7 @@ module _ {M S : Type 0} (g : Ghosts S) (opens : Wanted → M → M → List ℕ 
   abbrev pub HasAnswered : Asking → Type 0
   HasAnswered asking =
       (asked : Question) × (question asking.verb asking.line.items asking.form ≡ Ok asked)
-      × (names : TableNames) × (IsAnswered asking.source (λ state. called asking.labels asking.form names (answer asked state))
+      × (names : TableNames) × (IsAnswered asking.source (λ state. called asking.labels asking.form names (answer asked state)) (IsWholeAnswer asked)
       ⊎ (IsQuery asked × IsReplied asking.source asking.line.items (called asking.labels asking.form names)))
 
   -- in any case: its words ask nothing, or it was answered in part at most
@@ -237,9 +260,9 @@ module _ {M S : Type 0} (g : Ghosts S) (opens : Wanted → M → M → List ℕ 
 module _ {M S : Type 0} (g : Ghosts S) (opens : Wanted → M → M → List ℕ → Held S → Type 0) (refuses : Wanted → M → M → List ℕ → Type 0) (closes : M → M → Held S → Type 0) (from : Sources) (old new : M) (writer0 writer : Option (List ℕ)) where
   -- what differs from a state that was found was written, or nothing differs
   abbrev pub IsShown : Fence → (found : State) → Shown → Source → Type 0
-  IsShown fence found Lines source = IsAnswered g opens refuses closes from old new writer0 writer source (changes_text fence found)
-  IsShown fence found Impact source = IsAskedOf g opens refuses closes from old new source (λ state. (text : List ℕ) × IsWithImpact fence found state text × Appends writer0 writer text)
-  IsShown fence found Status source = (writer ≡ writer0) × IsAskedOf g opens refuses closes from old new source (λ state. changes_text fence found state ≡ [])
+  IsShown fence found Lines source = IsAnswered g opens refuses closes from old new writer0 writer source (changes_text fence found) (IsWholeChange fence found)
+  IsShown fence found Impact source = IsAskedOf g opens refuses closes from old new source (λ state. (text : List ℕ) × IsWithImpact fence found state text × Appends writer0 writer text × IsWholeChange fence found state)
+  IsShown fence found Status source = (writer ≡ writer0) × IsAskedOf g opens refuses closes from old new source (λ state. (changes_text fence found state ≡ []) × IsWholeChange fence found state)
 
   -- tables were asked, or not
   abbrev pub IsAskedOrNot : Source → Type 0
@@ -258,14 +281,14 @@ module _ {M S : Type 0} (g : Ghosts S) (opens : Wanted → M → M → List ℕ 
   -- what differs from the state of a listing was written, or nothing differs
   abbrev pub HasCompared : Option Word → Reach → Shown → Source → Type 0
   HasCompared file reach Lines source =
-      (accepted : Accepted) × IsWholeListing (Gives from file) accepted × (fence : Fence) × IsFenceOf reach fence
-      × IsAnswered g opens refuses closes (after (rest_after file) from) old new writer0 writer source (changes_text fence accepted.version)
+      (found : State) × (fence : Fence) × IsWholeFenced (Gives from file) reach found fence
+      × IsAnswered g opens refuses closes (after (rest_after file) from) old new writer0 writer source (changes_text fence found) (IsWholeChange fence found)
   HasCompared file reach Impact source =
-      (accepted : Accepted) × IsWholeListing (Gives from file) accepted × (fence : Fence) × IsFenceOf reach fence
-      × IsAskedOf g opens refuses closes (after (rest_after file) from) old new source (λ state. (text : List ℕ) × IsWithImpact fence accepted.version state text × Appends writer0 writer text)
+      (found : State) × (fence : Fence) × IsWholeFenced (Gives from file) reach found fence
+      × IsAskedOf g opens refuses closes (after (rest_after file) from) old new source (λ state. (text : List ℕ) × IsWithImpact fence found state text × Appends writer0 writer text × IsWholeChange fence found state)
   HasCompared file reach Status source =
-      (accepted : Accepted) × IsWholeListing (Gives from file) accepted × (fence : Fence) × IsFenceOf reach fence
-      × (writer ≡ writer0) × IsAskedOf g opens refuses closes (after (rest_after file) from) old new source (λ state. changes_text fence accepted.version state ≡ [])
+      (found : State) × (fence : Fence) × IsWholeFenced (Gives from file) reach found fence
+      × (writer ≡ writer0) × IsAskedOf g opens refuses closes (after (rest_after file) from) old new source (λ state. (changes_text fence found state ≡ []) × IsWholeChange fence found state)
 
   -- tables were asked after a listing was read, or not
   abbrev pub IsComparedOrNot : Option Word → Source → Type 0
@@ -275,10 +298,10 @@ module _ {M S : Type 0} (g : Ghosts S) (opens : Wanted → M → M → List ℕ 
   abbrev pub HasComparedAtMost : Option Word → Reach → Shown → Source → Type 0
   HasComparedAtMost file reach Lines source =
       (IsNotAsked g opens refuses closes old new source × (writer ≡ writer0))
-      ⊎ ((accepted : Accepted) × IsListing (Gives from file) accepted × (fence : Fence) × IsFenceOf reach fence
-      × IsAnsweredAtMost g opens refuses closes (after (rest_after file) from) old new writer0 writer source (changes_text fence accepted.version))
+      ⊎ ((found : State) × (fence : Fence) × IsFenced (Gives from file) reach found fence
+      × IsAnsweredAtMost g opens refuses closes (after (rest_after file) from) old new writer0 writer source (changes_text fence found))
   HasComparedAtMost file reach Impact source =
       (writer ≡ writer0) × IsComparedOrNot file source
-      ⊎ ((accepted : Accepted) × IsListing (Gives from file) accepted × (fence : Fence) × IsFenceOf reach fence
-      × IsAskedOf g opens refuses closes (after (rest_after file) from) old new source (λ state. (text : List ℕ) × IsWithImpact fence accepted.version state text × IsCutOff text writer0 writer))
+      ⊎ ((found : State) × (fence : Fence) × IsFenced (Gives from file) reach found fence
+      × IsAskedOf g opens refuses closes (after (rest_after file) from) old new source (λ state. (text : List ℕ) × IsWithImpact fence found state text × IsCutOff text writer0 writer))
   HasComparedAtMost file reach Status source = (writer ≡ writer0) × IsComparedOrNot file source

@@ -19,7 +19,7 @@ module _ {M S : Type 0} (g : Ghosts S) (opens : Wanted → M → M → List ℕ 
   IsDone (Tables asking) = HasAnswered g opens refuses closes from old new writer0 writer asking
   IsDone (Diff diffing) = HasCompared g opens refuses closes from old new writer0 writer (path_of diffing.file) diffing.reach diffing.shown diffing.source
   IsDone (Follow following) = (new ≡ old) × HasFollowed from writer0 writer (path_of following.file) following.server following.reach
-  IsDone (Wait waiting) = (new ≡ old) × (writer ≡ writer0)
+  IsDone (Wait waiting) = (new ≡ old) × (writer ≡ writer0) × from.speaks waiting.server
   IsDone (Import importing) = HasImported g opens refuses closes from old new writer0 writer (path_of importing.file) (path_of importing.database)
   IsDone (Impact rehearsing) = IsFoundOf g opens refuses closes from old new rehearsing.source DONE (IsRehearsed (Gives (after (rest_by rehearsing.source) from) (path_of rehearsing.file)) writer0 writer rehearsing DONE)
   IsDone (Assert asserting) = IsFoundOf g opens refuses closes from old new asserting.source DONE (IsAsserted (Gives (after (rest_by asserting.source) from) (path_of asserting.file)) writer0 writer asserting DONE)

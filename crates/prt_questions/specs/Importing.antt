@@ -5,6 +5,7 @@ use Rattle.sqlite.specs.Held.{Held}
 use Rattle.sqlite.specs.Store.{Ghosts}
 use Rattle.prt_addr.specs.Word.{Word}
 use Rattle.prt_import.specs.declared.accepted.Accepted.{Accepted}
+use Rattle.prt_import.specs.declared.left.Left.{Left}
 use Rattle.prt_questions.specs.Applying.{IsMadeAt, IsMadeAtMost}
 use Rattle.prt_questions.specs.Asking.{IsCutOff, IsListing, IsWholeListing}
 use Rattle.prt_questions.specs.Sources.{Gives, Sources}
@@ -30,4 +31,4 @@ module _ {M S : Type 0} (g : Ghosts S) (opens : Wanted → M → M → List ℕ 
   abbrev pub HasImportedAtMost : (file database : Option Word) → Type 0
   HasImportedAtMost file database =
       ((new ≡ old) × (writer ≡ writer0))
-      ⊎ ((accepted : Accepted) × IsListing (Gives from file) accepted × IsImportedAtMost g opens refuses closes old new writer0 writer database accepted)
+      ⊎ ((accepted : Accepted) × (left : List Left) × IsListing (Gives from file) left accepted × IsImportedAtMost g opens refuses closes old new writer0 writer database accepted)

@@ -3,6 +3,7 @@ pub mod Sessions
 pub mod Analyses
 pub mod Asking
 pub mod Fencing
+pub mod LeftOut
 pub mod Done
 pub mod Applying
 pub mod Tried

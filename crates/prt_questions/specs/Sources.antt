@@ -1,5 +1,5 @@
 -- What a question reads: files, the standard input, and what servers say.
-use Rattle.std.specs.Prelude.{◌≡◌, ℕ, List, [], ◌++◌, IfSome, Option, None, Some, codes, option_map}
+use Rattle.std.specs.Prelude.{◌≡◌, ◌≢◌, ℕ, List, [], ◌++◌, IfSome, Option, None, Some, codes, option_map}
 use Rattle.std.specs.Borrow.{Bor}
 use Rattle.prt_addr.specs.Word.{Word}
 use Rattle.prt_ask.specs.Fed.{AreRead}
@@ -73,6 +73,10 @@ module _ {N Stream : Type 0} (reaches : N → ServerPlace → Socket → List �
   abbrev pub IsReply : (line reply : List ℕ) → Type 0
   IsReply line reply = (socket : Socket) × (stream : Stream) × reaches net place socket (line ++ codes "\n") stream × IfSome (said stream) (λ all. reply ≡ all)
 
+  -- it sent something over a connection
+  abbrev pub IsHeard : Type 0
+  IsHeard = (socket : Socket) × (sent : List ℕ) × (stream : Stream) × reaches net place socket sent stream × IfSome (said stream) (λ all. all ≢ [])
+
 -- all that a server at a place sent over a connection for atomic scripts, over which it was sent one, is this reply
 abbrev pub IsAtomicReply : {N Stream : Type 0} → (N → ServerPlace → Socket → List ℕ → Stream → Type 0) → (Stream → Option (List ℕ)) → N → ServerPlace → (sent reply : List ℕ) → Type 0
 IsAtomicReply {N} {Stream} reaches said net place sent reply = (stream : Stream) × reaches net place Atomic sent stream × IfSome (said stream) (λ all. reply ≡ all)
@@ -93,9 +97,11 @@ pub record Sources : Type 1 where
   pub replies : ServerPlace → List ℕ → List ℕ → Type 0
   -- and this to an atomic script
   pub submits : ServerPlace → List ℕ → List ℕ → Type 0
+  -- and said something at all
+  pub speaks : ServerPlace → Type 0
 
 abbrev pub sources_of : {F File N Stream : Type 0} → (F → List ℕ → File → Type 0) → (File → Option (List ℕ)) → F → (N → ServerPlace → Socket → List ℕ → Stream → Type 0) → (Stream → Option (List ℕ)) → N → Option (List ℕ) → Sources
-sources_of opens bytes files reaches said net input = record { files = IsFileOf opens bytes files; input = input; tells = AreTold reaches said net; feeds = AreFed reaches said net; replies = IsReply reaches said net; submits = IsAtomicReply reaches said net }
+sources_of opens bytes files reaches said net input = record { files = IsFileOf opens bytes files; input = input; tells = AreTold reaches said net; feeds = AreFed reaches said net; replies = IsReply reaches said net; submits = IsAtomicReply reaches said net; speaks = IsHeard reaches said net }
 
 -- a text of a file, or of the input
 abbrev pub Gives : Sources → Option Word → List ℕ → Type 0

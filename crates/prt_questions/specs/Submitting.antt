@@ -17,7 +17,7 @@ use Rattle.prt_session.specs.Desk.{Mishap}
 use Rattle.prt_session.specs.Run.{refused_in}
 use Rattle.prt_session.specs.Session.{Path, replies}
 use Rattle.prt_session.specs.declared.atomic.CommandsRead.{CommandsRead}
-use Rattle.prt_words.specs.declared.fault.TheConstants.{DONE, FAULT}
+use Rattle.prt_words.specs.declared.fault.TheConstants.{FAULT}
 use Rattle.prt_words.specs.declared.server_place.ServerPlace.{ServerPlace}
 use Rattle.prt_questions.specs.Sources.{Gives, Sources}
 
@@ -66,13 +66,16 @@ EndsWith told writer0 writer end = (end.refused ≡ refused_in false told) × Wr
 abbrev pub IsQuiet : ScriptEnd → Type 0
 IsQuiet end = (end.refused ≡ false) × (end.fault ≡ None)
 
+-- commands were sent, and the reply to them was written
+abbrev pub IsAnsweredBy : (replies : List ℕ → List ℕ → Type 0) → List Command → (writer0 writer : Option (List ℕ)) → ScriptEnd → Type 0
+IsAnsweredBy answers commands writer0 writer end =
+    (told : List Reply) × answers (submission_text commands) (replies_text told) × ((refusal : Option Refusal) × IsVerdictOf (length commands) refusal told) × EndsWith told writer0 writer end
+
 -- What comes of a script that was read: nothing is sent of one that is refused or has no command; the commands of another are sent, and the reply is written.
 abbrev pub IsSent : (replies : List ℕ → List ℕ → Type 0) → CommandsRead → (writer0 writer : Option (List ℕ)) → ScriptEnd → Type 0
 IsSent answers read writer0 writer end =
     ((end ≡ read.end) × (writer ≡ writer0) × (IsQuiet read.end → read.commands.items ≡ []))
-    ⊎ (IsQuiet read.end
-    × (read.commands.items ≢ [])
-    × ((told : List Reply) × answers (submission_text read.commands.items) (replies_text told) × ((refusal : Option Refusal) × IsVerdictOf (length read.commands.items) refusal told) × EndsWith told writer0 writer end))
+    ⊎ (IsQuiet read.end × (read.commands.items ≢ []) × IsAnsweredBy answers read.commands.items writer0 writer end)
 
 -- ---- the whole script
 

@@ -1,5 +1,8 @@
 -- What a server said to the line of a query.
-use Rattle.std.specs.Prelude.{◌≡◌, ℕ, IfSome, List, Option}
+use Rattle.std.specs.Prelude.{◌≡◌, ◌++◌, ℕ, IfSome, List, Ok, Option, Some, codes}
+use Rattle.prt_command.specs.Reading.{reading}
+use Rattle.prt_command.specs.declared.request.Query.{Query}
+use Rattle.prt_command.specs.declared.request.Request.TheVariants as requests
 use Rattle.prt_feed.specs.Numbered.{numbered_from}
 use Rattle.prt_feed.specs.Reading.{IsOpening}
 use Rattle.prt_feed.specs.declared.opening.Opening.{Opening}
@@ -13,6 +16,14 @@ use Rattle.prt_questions.specs.declared.inquiry.Inquiry.{Inquiry}
 use Rattle.prt_questions.specs.declared.local.Socket.{Socket}
 use Rattle.prt_questions.specs.declared.remote.Told.{Told}
 use Rattle.prt_questions.specs.declared.remote.Told.TheVariants.{Reply, Tables}
+
+-- a session reads a line as a query
+abbrev pub IsQueryLine : List ℕ → Type 0
+IsQueryLine line = (query : Query) × (reading line ≡ Ok (Some (requests.Query query)))
+
+-- what a server is sent that is asked: one such line
+abbrev pub IsInquiry : List ℕ → Type 0
+IsInquiry sent = (line : List ℕ) × IsQueryLine line × (sent ≡ line ++ codes "\n")
 
 -- these bytes of a feed begin with these tables, and the rest comes after them
 abbrev pub IsFeedBefore : (bytes rest : Option (List ℕ)) → State → Type 0

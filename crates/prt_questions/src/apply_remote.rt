@@ -152,7 +152,7 @@ fn try_once<N: LocalNet, W: Write, E: Write>(
 /// Makes the tables of a server those that are wanted, and prints how. Returns the exit status.
 ///
 /// Up to 1,000 changes are made together; more of them in as few parts as that takes. If others change the tables meanwhile, the
-/// changes are worked out again, three times at most.
+/// changes are worked out again: three tries at most.
 pub(crate) fn apply_to_server<N: LocalNet, W: Write, E: Write>(
     rt: &N,
     alloc: Global,

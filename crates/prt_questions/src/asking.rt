@@ -1,13 +1,15 @@
 //! Questions to a database, to the server that has it, or to what a script makes.
-ghost use Rattle.std.specs.Prelude.{◌≡◌, ◌⊎◌, IfErr, IfOk, IfSome, List, false, true, ℕ};
+ghost use Rattle.std.specs.Prelude.{◌≡◌, ◌⊎◌, IfErr, IfOk, IfSome, List, Ok, false, true, ℕ};
 ghost use Rattle.std.specs.Io.KnownBytes.{Appends};
 ghost use Rattle.prt_ask.specs.Answers.{is_whole_change};
-ghost use Rattle.prt_questions.specs.Asking.{AreKernels, HasAnswered, HasAnsweredAtMost, IsAnswered, IsAnsweredAtMost, IsAskedAt, IsCutOff, IsNotOpened, IsQuery, IsReplied, IsRepliedAtMost, IsTold, called, said};
+ghost use Rattle.prt_ask.specs.Questions.{question};
+ghost use Rattle.prt_questions.specs.Asking.{HasAnswered, HasAnsweredAtMost, IsAnswered, IsAnsweredAtMost, IsAskedAt, IsCutOff, IsNotOpened, IsQuery, IsReplied, IsRepliedAtMost, IsTold, IsWholeAnswer, called, said};
+ghost use Rattle.prt_questions.specs.LeftOut.{AreKernels};
 ghost use Rattle.prt_import.specs.Accepted.{IsExecuted};
 ghost use Rattle.prt_import.specs.TableNames.{names_of};
 ghost use Rattle.prt_questions.specs.Sources.{AreTold, IsFileOf, IsRead, IsReply, path_of, sources_of};
 ghost use Rattle.prt_replies.specs.Written.{Written};
-ghost use Rattle.prt_questions.specs.Told.{IsSaidOf};
+ghost use Rattle.prt_questions.specs.Told.{IsQueryLine, IsSaidOf};
 ghost use Rattle.prt_version.specs.State.{State};
 ghost use Rattle.prt_words.specs.declared.asking.Source.TheVariants.{Server};
 
@@ -134,6 +136,7 @@ fn write_answer<P: Display, W: Write, E: Write>(
     ensures status { (result ≡ DONE) ⊎ ((result ≡ REFUSED) ⊎ (result ≡ FAULT)) }
     ensures whole { (text : List ℕ) → IfOk answered (λ made. made.text.items ≡ text) → result ≡ DONE → Appends (W.contents output.old) (W.contents output.new) text }
     ensures part { (text : List ℕ) → IfOk answered (λ made. made.text.items ≡ text) → IsCutOff text (W.contents output.old) (W.contents output.new) }
+    ensures change { result ≡ DONE → (made : Answered) × (answered ≡ Ok made) × (is_whole_change made.notes ≡ true) }
 {
     match answered {
         Ok(made) => write_made(made, output, errors),
@@ -158,7 +161,7 @@ fn ask_database<
     errors: &mut E,
 ) -> u8
     ensures status { (result ≡ DONE) ⊎ ((result ≡ REFUSED) ⊎ (result ≡ FAULT)) }
-    ensures whole { result ≡ DONE → IsAskedAt S.Store M.opens M.refuses M.closes databases.old.machine databases.new.machine path.now (λ state. Appends (W.contents output.old) (W.contents output.new) (said inquiry.now state)) }
+    ensures whole { result ≡ DONE → IsAskedAt S.Store M.opens M.refuses M.closes databases.old.machine databases.new.machine path.now (λ state. Appends (W.contents output.old) (W.contents output.new) (said inquiry.now state) × IsWholeAnswer inquiry.now.question state) }
     ensures there { result ≡ DONE → M.is_there databases.old.machine path.now }
     ensures at_most { (IsNotOpened S.Store M.opens M.refuses M.closes databases.old.machine databases.new.machine Wanted.Ours path.now × (W.contents output.new ≡ W.contents output.old))
         ⊎ IsAskedAt S.Store M.opens M.refuses M.closes databases.old.machine databases.new.machine path.now (λ state. IsCutOff (said inquiry.now state) (W.contents output.old) (W.contents output.new)) }
@@ -184,7 +187,7 @@ fn ask_server<N: LocalNet, W: Write, E: Write>(
     errors: &mut E,
 ) -> u8
     ensures status { (result ≡ DONE) ⊎ ((result ≡ REFUSED) ⊎ (result ≡ FAULT)) }
-    ensures whole { result ≡ DONE → (told : State) × AreTold N.reaches N.Stream.remaining rt.now place.now told × Appends (W.contents output.old) (W.contents output.new) (said inquiry.now told) }
+    ensures whole { result ≡ DONE → (told : State) × AreTold N.reaches N.Stream.remaining rt.now place.now told × Appends (W.contents output.old) (W.contents output.new) (said inquiry.now told) × IsWholeAnswer inquiry.now.question told }
     ensures part { (W.contents output.new ≡ W.contents output.old) ⊎ ((told : State) × AreTold N.reaches N.Stream.remaining rt.now place.now told × IsCutOff (said inquiry.now told) (W.contents output.old) (W.contents output.new)) }
 {
     match read_tables(rt, alloc, place) {
@@ -212,7 +215,7 @@ fn said_by(alloc: Global, told: Told, inquiry: &Inquiry<'_>) -> Result<Vec<u8>, 
     }
 }
 
-/// Sends a server the line of an inquiry, and returns the exit status. A session replies to it; a feed tells its tables,
+/// Sends a server the line of an inquiry, which is a query, and returns the exit status. A session replies to it; a feed tells its tables,
 /// and they are asked.
 fn ask_session<N: LocalNet, W: Write, E: Write>(
     rt: &N,
@@ -223,6 +226,7 @@ fn ask_session<N: LocalNet, W: Write, E: Write>(
     output: &mut W,
     errors: &mut E,
 ) -> u8
+    requires { IsQueryLine line.now }
     ensures status { (result ≡ DONE) ⊎ ((result ≡ REFUSED) ⊎ (result ≡ FAULT)) }
     ensures whole { result ≡ DONE → (text : List ℕ) × IsTold (AreTold N.reaches N.Stream.remaining rt.now place.now) (IsReply N.reaches N.Stream.remaining rt.now place.now line.now) inquiry.now text × Appends (W.contents output.old) (W.contents output.new) text }
     ensures part { (W.contents output.new ≡ W.contents output.old) ⊎ ((text : List ℕ) × IsTold (AreTold N.reaches N.Stream.remaining rt.now place.now) (IsReply N.reaches N.Stream.remaining rt.now place.now line.now) inquiry.now text × IsCutOff text (W.contents output.old) (W.contents output.new)) }
@@ -298,7 +302,7 @@ fn ask_script<F: ReadFiles, R: Read, W: Write, E: Write>(
     errors: &mut E,
 ) -> u8
     ensures status { (result ≡ DONE) ⊎ ((result ≡ REFUSED) ⊎ (result ≡ FAULT)) }
-    ensures whole { result ≡ DONE → (made : Accepted) × (text : List ℕ) × IsRead (IsFileOf F.opens F.Opened.remaining files.now) (R.remaining input.old) (path_of file.entry) text × IsExecuted made text × AreKernels made.left.items × Appends (W.contents output.old) (W.contents output.new) (said inquiry.now made.version) }
+    ensures whole { result ≡ DONE → (made : Accepted) × (text : List ℕ) × IsRead (IsFileOf F.opens F.Opened.remaining files.now) (R.remaining input.old) (path_of file.entry) text × IsExecuted made text × AreKernels made.left.items × Appends (W.contents output.old) (W.contents output.new) (said inquiry.now made.version) × IsWholeAnswer inquiry.now.question made.version }
     ensures part { (W.contents output.new ≡ W.contents output.old) ⊎ ((made : Accepted) × (text : List ℕ) × IsRead (IsFileOf F.opens F.Opened.remaining files.now) (R.remaining input.old) (path_of file.entry) text × IsExecuted made text × IsCutOff (said inquiry.now made.version) (W.contents output.old) (W.contents output.new)) }
 {
     let script = match read_whole(files, alloc, file, input, output, errors) {
@@ -338,7 +342,7 @@ pub(crate) fn ask_source<
     errors: &mut E,
 ) -> u8
     ensures status { (result ≡ DONE) ⊎ ((result ≡ REFUSED) ⊎ (result ≡ FAULT)) }
-    ensures whole { result ≡ DONE → IsAnswered S.Store M.opens M.refuses M.closes (sources_of F.opens F.Opened.remaining databases.old.files.now N.reaches N.Stream.remaining databases.old.rt (R.remaining input.old)) databases.old.machine databases.new.machine (W.contents output.old) (W.contents output.new) source.now (said inquiry.now) }
+    ensures whole { result ≡ DONE → IsAnswered S.Store M.opens M.refuses M.closes (sources_of F.opens F.Opened.remaining databases.old.files.now N.reaches N.Stream.remaining databases.old.rt (R.remaining input.old)) databases.old.machine databases.new.machine (W.contents output.old) (W.contents output.new) source.now (said inquiry.now) (IsWholeAnswer inquiry.now.question) }
     ensures at_most { IsAnsweredAtMost S.Store M.opens M.refuses M.closes (sources_of F.opens F.Opened.remaining databases.old.files.now N.reaches N.Stream.remaining databases.old.rt (R.remaining input.old)) databases.old.machine databases.new.machine (W.contents output.old) (W.contents output.new) source.now (said inquiry.now) }
 {
     match source {
@@ -358,7 +362,7 @@ pub(crate) fn ask_source<
     }
 }
 
-/// Asks the tables at a source, or a server by the line of the question, and returns the exit status.
+/// Asks the tables at a source, or a server by the line that asks the question, and returns the exit status.
 fn ask_tables<
     S: Alter + Drop,
     M: Machine<Connection<S>> + Drop,
@@ -376,8 +380,9 @@ fn ask_tables<
     output: &mut W,
     errors: &mut E,
 ) -> u8
+    requires { question asking.now.verb asking.now.line.items asking.now.form ≡ Ok inquiry.now.question }
     ensures status { (result ≡ DONE) ⊎ ((result ≡ REFUSED) ⊎ (result ≡ FAULT)) }
-    ensures whole { result ≡ DONE → IsAnswered S.Store M.opens M.refuses M.closes (sources_of F.opens F.Opened.remaining databases.old.files.now N.reaches N.Stream.remaining databases.old.rt (R.remaining input.old)) databases.old.machine databases.new.machine (W.contents output.old) (W.contents output.new) asking.now.source (said inquiry.now)
+    ensures whole { result ≡ DONE → IsAnswered S.Store M.opens M.refuses M.closes (sources_of F.opens F.Opened.remaining databases.old.files.now N.reaches N.Stream.remaining databases.old.rt (R.remaining input.old)) databases.old.machine databases.new.machine (W.contents output.old) (W.contents output.new) asking.now.source (said inquiry.now) (IsWholeAnswer inquiry.now.question)
         ⊎ (IsQuery inquiry.now.question × IsReplied S.Store M.opens M.refuses M.closes (sources_of F.opens F.Opened.remaining databases.old.files.now N.reaches N.Stream.remaining databases.old.rt (R.remaining input.old)) databases.old.machine databases.new.machine (W.contents output.old) (W.contents output.new) asking.now.source asking.now.line.items (called inquiry.now.labels inquiry.now.form (names_of inquiry.now.names.now))) }
     ensures at_most { IsAnsweredAtMost S.Store M.opens M.refuses M.closes (sources_of F.opens F.Opened.remaining databases.old.files.now N.reaches N.Stream.remaining databases.old.rt (R.remaining input.old)) databases.old.machine databases.new.machine (W.contents output.old) (W.contents output.new) asking.now.source (said inquiry.now)
         ⊎ (IsQuery inquiry.now.question × IsRepliedAtMost S.Store M.opens M.refuses M.closes (sources_of F.opens F.Opened.remaining databases.old.files.now N.reaches N.Stream.remaining databases.old.rt (R.remaining input.old)) databases.old.machine databases.new.machine (W.contents output.old) (W.contents output.new) asking.now.source asking.now.line.items (called inquiry.now.labels inquiry.now.form (names_of inquiry.now.names.now))) }

@@ -20,6 +20,9 @@ use std::io::Read;
 use std::net::{OpenStream, Shutdown};
 use std::time::Duration;
 
+/// How many seconds a server may take to reply to a script. It makes none for which no worker was free for 10.
+const REPLY_PATIENCE: u64 = 30;
+
 /// An atomic script without commands, for a number that no tables reach.
 const NO_NUMBER: &[u8] = b"at 18446744073709551615\n";
 
@@ -112,6 +115,8 @@ pub(crate) fn exchange<N: LocalNet>(
     if stream.shutdown(Shutdown::Write).is_err() {
         return Err(NotTold::Unknown);
     }
+    let reply_in = Some(Duration::from_secs(REPLY_PATIENCE));
+    let _patient = stream.set_read_timeout(reply_in).is_ok();
     let mut reply = Vec::new(alloc);
     match stream.read_to_end(&mut reply) {
         Ok(_) => Ok(reply),

@@ -1,12 +1,14 @@
 //! The fence that words name.
-ghost use Rattle.std.specs.Prelude.{◌≡◌, IfOk, map};
-ghost use Rattle.prt_questions.specs.Fencing.{IsFenceOf, protocol_range, range_of};
-ghost use Rattle.prt_words.specs.declared.reach.Reach.{Reach as Reaches};
+ghost use Rattle.std.specs.Prelude.{◌≡◌, IfOk, filter_map, map};
+ghost use Rattle.prt_import.specs.TableNames.{known_names};
+ghost use Rattle.prt_questions.specs.Fencing.{IsFenceOf, priority_in, range_at, range_of, unread_key, unread_priority};
 
+use crate::left::is_kernels;
 use crate::reading::host_names;
 use prt_diff::{Fence, NumberRange};
-use prt_import::{HostNames, Left, Reason, route_key, rule_priority};
+use prt_import::{HostNames, Left, route_key, rule_priority};
 use prt_program::ReadFiles;
+use prt_route::RouteKey;
 use prt_words::{NumberSpan, Reach};
 use std::alloc::{AllocError, Global};
 
@@ -24,54 +26,89 @@ fn ranges_of(alloc: Global, spans: &[NumberSpan]) -> Result<Vec<NumberRange>, Al
     Ok(ranges)
 }
 
+/// Makes the range of a number alone.
+fn range_at(number: u32) -> NumberRange
+    ensures { result ≡ range_at number }
+{
+    NumberRange {
+        first: number,
+        last: number,
+    }
+}
+
 /// Makes a range for each protocol that is named.
 fn protocol_ranges(alloc: Global, protocols: &[u8]) -> Result<Vec<NumberRange>, AllocError>
-    ensures { IfOk result (λ ranges. ranges.items ≡ map protocol_range protocols.now) }
+    ensures { IfOk result (λ ranges. ranges.items ≡ map range_at protocols.now) }
 {
     let mut ranges = Vec::new(alloc);
     for protocol in protocols {
-        let number = u32::from(*protocol);
-        ranges.push(NumberRange {
-            first: number,
-            last: number,
-        })?;
+        ranges.push(range_at(u32::from(*protocol)))?;
     }
     Ok(ranges)
 }
 
-/// Makes the fence that words name.
-fn fence_of(alloc: Global, reach: &Reach) -> Result<Fence, AllocError>
-    ensures { IfOk result (IsFenceOf reach.now) }
+/// Finds the priority of the rule that a line of a listing is about.
+fn priority_in(line: &Left) -> Option<u32>
+    ensures { result ≡ priority_in line.now }
 {
-    Ok(Fence {
-        all: reach.all,
-        tables: ranges_of(alloc, &reach.tables)?,
-        protocols: protocol_ranges(alloc, &reach.protocols)?,
-        priorities: ranges_of(alloc, &reach.priorities)?,
-        unread_priorities: Vec::new(alloc),
-        unread_keys: Vec::new(alloc),
-    })
+    rule_priority(&line.text)
 }
 
-/// Keeps a line of a listing that can't be kept out of a fence: rules of its priority, or routes of its key. A line of which
-/// neither can be read has none that is ours.
-fn keep_out(fence: &mut Fence, names: &HostNames, line: &Left) -> Result<(), AllocError>
-    ensures { (reach : Reaches) → IsFenceOf reach fence.old → IsFenceOf reach fence.new }
+/// Finds the priority of the rule that can't be kept, unless the kernel makes the line itself.
+fn unread_priority(line: &Left) -> Option<NumberRange>
+    ensures { result ≡ unread_priority line.now }
 {
-    if let Reason::Kernel = line.reason {
-        return Ok(());
+    if is_kernels(line) {
+        return None;
     }
-    if let Some(priority) = rule_priority(&line.text) {
-        fence.unread_priorities.push(NumberRange {
-            first: priority,
-            last: priority,
-        })?;
-        return Ok(());
+    let priority = priority_in(line)?;
+    Some(range_at(priority))
+}
+
+/// Finds the key of the route that can't be kept, unless the kernel makes the line itself.
+fn unread_key(names: &HostNames, line: &Left) -> Option<RouteKey>
+    ensures { result ≡ unread_key (known_names names.now) line.now }
+{
+    if is_kernels(line) {
+        return None;
     }
-    if let Some(key) = route_key(names, &line.text) {
-        fence.unread_keys.push(key)?;
+    if priority_in(line).is_some() {
+        return None;
     }
-    Ok(())
+    route_key(names, &line.text)
+}
+
+/// Collects the priorities of the rules that can't be kept.
+#[tactic(auto, using(crate::proofs::Picked::picks_none, crate::proofs::Picked::picks_some))]
+fn unread_priorities(alloc: Global, unread: &[Left]) -> Result<Vec<NumberRange>, AllocError>
+    ensures { IfOk result (λ ranges. ranges.items ≡ filter_map unread_priority unread.now) }
+{
+    let mut ranges = Vec::new(alloc);
+    for line in unread {
+        if let Some(priority) = unread_priority(line) {
+            ranges.push(priority)?;
+        }
+    }
+    Ok(ranges)
+}
+
+/// Collects the keys of the routes that can't be kept. A line of which neither a priority nor a key can be read has none that
+/// is ours.
+#[tactic(auto, using(crate::proofs::Picked::picks_none, crate::proofs::Picked::picks_some))]
+fn unread_keys(
+    alloc: Global,
+    names: &HostNames,
+    unread: &[Left],
+) -> Result<Vec<RouteKey>, AllocError>
+    ensures { IfOk result (λ keys. keys.items ≡ filter_map (unread_key (known_names names.now)) unread.now) }
+{
+    let mut keys = Vec::new(alloc);
+    for line in unread {
+        if let Some(key) = unread_key(names, line) {
+            keys.push(key)?;
+        }
+    }
+    Ok(keys)
 }
 
 /// Makes the fence that words name, without what is in the place of lines that can't be kept.
@@ -85,12 +122,15 @@ pub(crate) fn fence_beside<F: ReadFiles>(
     reach: &Reach,
     unread: &[Left],
 ) -> Result<Fence, AllocError>
-    ensures { IfOk result (IsFenceOf reach.now) }
+    ensures { IfOk result (IsFenceOf reach.now unread.now) }
 {
     let names = host_names(files, alloc)?;
-    let mut fence = fence_of(alloc, reach)?;
-    for line in unread {
-        keep_out(&mut fence, &names, line)?;
-    }
-    Ok(fence)
+    Ok(Fence {
+        all: reach.all,
+        tables: ranges_of(alloc, &reach.tables)?,
+        protocols: protocol_ranges(alloc, &reach.protocols)?,
+        priorities: ranges_of(alloc, &reach.priorities)?,
+        unread_priorities: unread_priorities(alloc, unread)?,
+        unread_keys: unread_keys(alloc, &names, unread)?,
+    })
 }

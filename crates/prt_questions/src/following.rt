@@ -1,12 +1,13 @@
 //! A kernel that follows a server, and the wait for a server.
 ghost use Rattle.std.specs.Prelude.{◌≡◌, ◌⊎◌, Bool, IfErr, IfOk, List, Option, ℕ};
 ghost use Rattle.std.specs.Io.Buffered.{reader_remaining};
+ghost use Rattle.prt_ask.specs.Answers.{AreNotesOf};
 ghost use Rattle.prt_ask.specs.Fed.{AreRead};
 ghost use Rattle.prt_ask.specs.Mirrors.{Follows, mirror_of};
 ghost use Rattle.prt_diff.specs.Text.{changes_text};
 ghost use Rattle.prt_feed.specs.declared.change.Change.{Change};
 ghost use Rattle.prt_questions.specs.Asking.{HasFollowed, HasFollowedAtMost};
-ghost use Rattle.prt_questions.specs.Sources.{AreTold, path_of, sources_of};
+ghost use Rattle.prt_questions.specs.Sources.{AreTold, IsHeard, path_of, sources_of};
 ghost use Rattle.prt_version.specs.State.{State};
 
 use crate::asking::{REFUSED, none_message, report_none, write_made};
@@ -56,7 +57,7 @@ fn begin_at<N: LocalNet, W: Write, E: Write>(
     output: &mut W,
     errors: &mut E,
 ) -> Result<(BufReader<N::Stream>, Mirror, Answered), u8>
-    ensures begun { IfOk result (λ begun. (told : State) × (is : AreTold N.reaches N.Stream.remaining rt.now place.now told) × (reader_remaining N.Stream.remaining begun.0 ≡ is.rest) × (begun.1 ≡ mirror_of listing.fence listing.found told) × (begun.2.text.items ≡ changes_text listing.fence listing.found told)) }
+    ensures begun { IfOk result (λ begun. (told : State) × (is : AreTold N.reaches N.Stream.remaining rt.now place.now told) × (reader_remaining N.Stream.remaining begun.0 ≡ is.rest) × (begun.1 ≡ mirror_of listing.fence listing.found told) × (begun.2.text.items ≡ changes_text listing.fence listing.found told) × AreNotesOf listing.fence listing.found told begun.2.notes) }
     ensures fault { IfErr result (λ status. (status ≡ REFUSED) ⊎ (status ≡ FAULT)) }
     ensures unwritten { W.contents output.new ≡ W.contents output.old }
 {
@@ -150,7 +151,8 @@ pub(crate) fn wait_for<N: LocalNet + Clock, E: Write>(
     waiting: &Waiting<'_>,
     errors: &mut E,
 ) -> u8
-    ensures { (result ≡ DONE) ⊎ (result ≡ FAULT) }
+    ensures status { (result ≡ DONE) ⊎ (result ≡ FAULT) }
+    ensures heard { result ≡ DONE → IsHeard N.reaches N.Stream.remaining rt.now waiting.now.server }
 {
     let begun = time(rt);
     let patience = Duration::from_secs(waiting.seconds);

@@ -2,7 +2,7 @@
 ghost use Rattle.std.specs.Prelude.{◌≡◌, ◌⊎◌, ◌++◌, IfOk, List, OnOk, ℕ};
 ghost use Rattle.std.specs.Io.KnownBytes.{Appends};
 ghost use Rattle.prt_questions.specs.Analyses.{IsNotRead};
-ghost use Rattle.prt_questions.specs.Asking.{IsAskedOf, IsCutOff, IsWithImpact, IsWithImpactOf, comment_of, comments_of};
+ghost use Rattle.prt_questions.specs.Asking.{IsAskedOf, IsCutOff, IsWholeChange, IsWithImpact, IsWithImpactOf, comment_of, comments_of};
 ghost use Rattle.prt_questions.specs.Sources.{sources_of};
 
 use crate::asking::{REFUSED, report_none, write_made};
@@ -80,7 +80,7 @@ fn write_difference<W: Write, E: Write>(
     errors: &mut E,
 ) -> u8
     ensures status { (result ≡ DONE) ⊎ ((result ≡ REFUSED) ⊎ (result ≡ FAULT)) }
-    ensures whole { result ≡ DONE → (text : List ℕ) × IsWithImpact comparison.now.fence.now comparison.now.found.now wanted.now text × Appends (W.contents output.old) (W.contents output.new) text }
+    ensures whole { result ≡ DONE → (text : List ℕ) × IsWithImpact comparison.now.fence.now comparison.now.found.now wanted.now text × Appends (W.contents output.old) (W.contents output.new) text × IsWholeChange comparison.now.fence.now comparison.now.found.now wanted.now }
     ensures part { (W.contents output.new ≡ W.contents output.old) ⊎ ((text : List ℕ) × IsWithImpact comparison.now.fence.now comparison.now.found.now wanted.now text × IsCutOff text (W.contents output.old) (W.contents output.new)) }
 {
     let Answered { text, notes } = match answer(alloc, wanted, &Question::Diff(*comparison)) {
@@ -113,7 +113,7 @@ pub(crate) fn diff_with_impact<
     errors: &mut E,
 ) -> u8
     ensures status { (result ≡ DONE) ⊎ ((result ≡ REFUSED) ⊎ (result ≡ FAULT)) }
-    ensures whole { result ≡ DONE → IsAskedOf S.Store M.opens M.refuses M.closes (sources_of F.opens F.Opened.remaining databases.old.files.now N.reaches N.Stream.remaining databases.old.rt (R.remaining input.old)) databases.old.machine databases.new.machine source.now (λ state. (text : List ℕ) × IsWithImpact comparison.now.fence.now comparison.now.found.now state text × Appends (W.contents output.old) (W.contents output.new) text) }
+    ensures whole { result ≡ DONE → IsAskedOf S.Store M.opens M.refuses M.closes (sources_of F.opens F.Opened.remaining databases.old.files.now N.reaches N.Stream.remaining databases.old.rt (R.remaining input.old)) databases.old.machine databases.new.machine source.now (λ state. (text : List ℕ) × IsWithImpact comparison.now.fence.now comparison.now.found.now state text × Appends (W.contents output.old) (W.contents output.new) text × IsWholeChange comparison.now.fence.now comparison.now.found.now state) }
     ensures at_most { ((W.contents output.new ≡ W.contents output.old) × IsNotRead S.Store M.opens M.refuses M.closes (sources_of F.opens F.Opened.remaining databases.old.files.now N.reaches N.Stream.remaining databases.old.rt (R.remaining input.old)) databases.old.machine databases.new.machine source.now)
         ⊎ IsAskedOf S.Store M.opens M.refuses M.closes (sources_of F.opens F.Opened.remaining databases.old.files.now N.reaches N.Stream.remaining databases.old.rt (R.remaining input.old)) databases.old.machine databases.new.machine source.now (λ state. (text : List ℕ) × IsWithImpact comparison.now.fence.now comparison.now.found.now state text × IsCutOff text (W.contents output.old) (W.contents output.new)) }
 {

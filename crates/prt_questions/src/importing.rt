@@ -1,10 +1,12 @@
 //! What `ip` prints, as a script, and what differs from it.
-ghost use Rattle.std.specs.Prelude.{◌≡◌, ◌⊎◌, IfErr, IfOk, OnOk, []};
-ghost use Rattle.prt_questions.specs.Asking.{AreKept, AreLinesOf, HasCompared, HasComparedAtMost, IsAskedOf, IsListing, IsMadeOf, IsNotAsked, IsShown, IsShownAtMost, IsWholeListing, said};
-ghost use Rattle.prt_questions.specs.Fencing.{IsFenceOf};
+ghost use Rattle.std.specs.Prelude.{◌≡◌, ◌⊎◌, IfErr, IfOk, OnOk, [], true};
+ghost use Rattle.std.specs.List.{list_any};
+ghost use Rattle.prt_questions.specs.Asking.{AreKept, AreLinesOf, HasCompared, HasComparedAtMost, IsAskedOf, IsFenced, IsListing, IsMadeOf, IsNotAsked, IsShown, IsShownAtMost, IsWholeAnswer, IsWholeFenced, adds, is_any_known, said};
+ghost use Rattle.prt_questions.specs.LeftOut.{is_kernels};
 ghost use Rattle.prt_questions.specs.Sources.{HasLeft, IsFileOf, IsRead, path_of, rest_after, sources_of};
 ghost use Rattle.prt_questions.specs.Importing.{HasImported, HasImportedAtMost, IsImported, IsImportedAtMost};
 ghost use Rattle.prt_import.specs.Imported.{IsImportOf};
+ghost use Rattle.prt_import.specs.Lines.{lines_of};
 ghost use Rattle.prt_import.specs.TableNames.{KnownNames};
 ghost use Rattle.prt_words.specs.declared.asking.Shown.TheVariants as shows;
 
@@ -14,13 +16,13 @@ use crate::databases::DatabaseFiles;
 use crate::fencing::fence_beside;
 use crate::impact_of_diff::diff_with_impact;
 use crate::inquiry::Inquiry;
-use crate::left::{or_left, tell_left};
+use crate::left::{is_kernels, or_left, tell_left};
 use crate::local::LocalNet;
 use crate::machine::Machine;
 use crate::reading::{host_names, read_whole, report_no_memory, report_unread};
 use prt_ask::{Comparison, Question};
 use prt_diff::Fence;
-use prt_import::{Accepted, Imported, Left, Names, accept, check_listing, import};
+use prt_import::{Accepted, Imported, Left, Names, accept, check_listing, import, next_line};
 use prt_ip_json::{NotListed, is_json, listing_of};
 use prt_program::{ReadFiles, Refusal};
 use prt_version::Version;
@@ -35,6 +37,9 @@ const ESCAPE: u8 = 27;
 
 /// Why a listing with colours isn't read: no word of it would be known.
 const COLOURS: &str = "the listing has colours: take one of `ip -c=never`";
+
+/// Why a listing isn't read of which nothing is known: tables like it would be empty.
+const NONE_KNOWN: &str = "no line of the listing is a route or a rule that can be kept";
 
 /// Returns the lines of what `ip` printed, also if that is the JSON of `ip -j`.
 fn lines_of(alloc: Global, text: Vec<u8>) -> Result<Vec<u8>, NotListed>
@@ -67,9 +72,9 @@ fn keep_lines<F: ReadFiles, E: Write>(
     lines: &[u8],
     errors: &mut E,
 ) -> Result<(Accepted, u8, Vec<Left>), Refusal>
-    ensures made { IfOk result (λ read. IsMadeOf lines.now read.0) }
+    ensures made { IfOk result (λ read. IsMadeOf lines.now read.2.items read.0) }
     ensures status { IfOk result (λ read. (read.1 ≡ DONE) ⊎ (read.1 ≡ REFUSED)) }
-    ensures kept { IfOk result (λ read. read.1 ≡ DONE → AreKept lines.now read.0) }
+    ensures kept { IfOk result (λ read. read.1 ≡ DONE → AreKept read.2.items read.0) }
 {
     let imported = match script_of(files, alloc, lines) {
         Ok(imported) => imported,
@@ -90,11 +95,46 @@ fn has_colours(lines: &[u8]) -> bool {
     lines.contains(&ESCAPE)
 }
 
+/// Checks whether a line of a script adds a rule or a route.
+fn adds(line: &[u8]) -> bool
+    ensures { result ≡ adds line.now }
+{
+    line.starts_with(b"rule add ") || line.starts_with(b"route add ")
+}
+
+/// Checks whether some line of a script adds a rule or a route.
+fn adds_any(script: &[u8]) -> bool
+    ensures { result ≡ list_any adds (lines_of script.now) }
+{
+    let mut rest = script;
+    while let Some((line, after)) = next_line(rest) {
+        if adds(line) {
+            return true;
+        }
+        rest = after;
+    }
+    false
+}
+
+/// Checks whether the kernel makes one of the lines itself.
+fn is_any_kernels(left: &[Left]) -> bool
+    ensures { result ≡ list_any is_kernels left.now }
+{
+    left.iter().any(|line| is_kernels(line))
+}
+
+/// Checks whether some line of a listing is known: a rule or a route of it is kept, or the kernel makes one itself.
+fn is_any_known(left: &[Left], accepted: &Accepted) -> bool
+    ensures { result ≡ is_any_known left.now accepted.now }
+{
+    adds_any(&accepted.script) || is_any_kernels(left)
+}
+
 /// Reads what `ip` printed, of a file or of the input, as `keep_lines` does.
 ///
 /// # Errors
 ///
-/// The exit status, if it can't be read, isn't a whole listing of IPv4, or memory is refused.
+/// The exit status, if it can't be read, isn't a whole listing of IPv4, no line of it is known, or memory is refused.
 pub(crate) fn read_listing<F: ReadFiles, R: Read, W: Write, E: Write>(
     files: &F,
     alloc: Global,
@@ -103,9 +143,9 @@ pub(crate) fn read_listing<F: ReadFiles, R: Read, W: Write, E: Write>(
     output: &mut W,
     errors: &mut E,
 ) -> Result<(Accepted, u8, Vec<Left>), u8>
-    ensures made { IfOk result (λ read. IsListing (IsRead (IsFileOf F.opens F.Opened.remaining files.now) (R.remaining input.old) (path_of file.entry)) read.0) }
+    ensures made { IfOk result (λ read. IsListing (IsRead (IsFileOf F.opens F.Opened.remaining files.now) (R.remaining input.old) (path_of file.entry)) read.2.items read.0) }
     ensures status { IfOk result (λ read. (read.1 ≡ DONE) ⊎ (read.1 ≡ REFUSED)) }
-    ensures kept { IfOk result (λ read. read.1 ≡ DONE → IsWholeListing (IsRead (IsFileOf F.opens F.Opened.remaining files.now) (R.remaining input.old) (path_of file.entry)) read.0) }
+    ensures kept { IfOk result (λ read. read.1 ≡ DONE → AreKept read.2.items read.0) }
     ensures left { OnOk result (HasLeft (rest_after (path_of file.entry)) (R.remaining input.old) (R.remaining input.new)) }
     ensures fault { IfErr result (λ status. status ≡ FAULT) }
     ensures unwritten { W.contents output.new ≡ W.contents output.old }
@@ -122,10 +162,13 @@ pub(crate) fn read_listing<F: ReadFiles, R: Read, W: Write, E: Write>(
     if let Err(reason) = check_listing(&lines) {
         return Err(report_unread(alloc, file, &reason, output, errors));
     }
-    match keep_lines(files, alloc, &lines, errors) {
-        Ok(read) => Ok(read),
-        Err(_) => Err(report_no_memory(output, errors)),
+    let Ok(read) = keep_lines(files, alloc, &lines, errors) else {
+        return Err(report_no_memory(output, errors));
+    };
+    if !is_any_known(&read.2, &read.0) {
+        return Err(report_unread(alloc, file, &NONE_KNOWN, output, errors));
     }
+    Ok(read)
 }
 
 /// The tables that a listing makes, and what of them is compared.
@@ -152,10 +195,9 @@ pub(crate) fn read_fenced<F: ReadFiles, R: Read, W: Write, E: Write>(
     output: &mut W,
     errors: &mut E,
 ) -> Result<Fenced, u8>
-    ensures made { IfOk result (λ listing. (accepted : Accepted) × IsListing (IsRead (IsFileOf F.opens F.Opened.remaining files.now) (R.remaining input.old) (path_of file.entry)) accepted × (listing.found ≡ accepted.version)) }
+    ensures made { IfOk result (λ listing. IsFenced (IsRead (IsFileOf F.opens F.Opened.remaining files.now) (R.remaining input.old) (path_of file.entry)) reach.now listing.found listing.fence) }
     ensures status { IfOk result (λ listing. (listing.left ≡ DONE) ⊎ (listing.left ≡ REFUSED)) }
-    ensures kept { IfOk result (λ listing. listing.left ≡ DONE → (accepted : Accepted) × IsWholeListing (IsRead (IsFileOf F.opens F.Opened.remaining files.now) (R.remaining input.old) (path_of file.entry)) accepted × (listing.found ≡ accepted.version)) }
-    ensures fence { IfOk result (λ listing. IsFenceOf reach.now listing.fence) }
+    ensures kept { IfOk result (λ listing. listing.left ≡ DONE → IsWholeFenced (IsRead (IsFileOf F.opens F.Opened.remaining files.now) (R.remaining input.old) (path_of file.entry)) reach.now listing.found listing.fence) }
     ensures left { OnOk result (HasLeft (rest_after (path_of file.entry)) (R.remaining input.old) (R.remaining input.new)) }
     ensures fault { IfErr result (λ status. status ≡ FAULT) }
     ensures unwritten { W.contents output.new ≡ W.contents output.old }
@@ -267,7 +309,7 @@ fn compare<
     errors: &mut E,
 ) -> u8
     ensures status { (result ≡ DONE) ⊎ ((result ≡ REFUSED) ⊎ (result ≡ FAULT)) }
-    ensures same { result ≡ DONE → IsAskedOf S.Store M.opens M.refuses M.closes (sources_of F.opens F.Opened.remaining databases.old.files.now N.reaches N.Stream.remaining databases.old.rt (R.remaining input.old)) databases.old.machine databases.new.machine source.now (λ state. said inquiry.now state ≡ []) }
+    ensures same { result ≡ DONE → IsAskedOf S.Store M.opens M.refuses M.closes (sources_of F.opens F.Opened.remaining databases.old.files.now N.reaches N.Stream.remaining databases.old.rt (R.remaining input.old)) databases.old.machine databases.new.machine source.now (λ state. (said inquiry.now state ≡ []) × IsWholeAnswer inquiry.now.question state) }
     ensures part { IsNotAsked S.Store M.opens M.refuses M.closes databases.old.machine databases.new.machine source.now ⊎ IsAskedOf S.Store M.opens M.refuses M.closes (sources_of F.opens F.Opened.remaining databases.old.files.now N.reaches N.Stream.remaining databases.old.rt (R.remaining input.old)) databases.old.machine databases.new.machine source.now (λ state. Unit {0}) }
 {
     let mut lines: Vec<u8> = Vec::new(alloc);

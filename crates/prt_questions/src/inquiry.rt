@@ -1,5 +1,6 @@
 //! What is asked about tables, and how an answer calls them.
 ghost use Rattle.std.specs.Prelude.{◌≡◌, IfOk};
+ghost use Rattle.prt_ask.specs.Answers.{AreNotes};
 ghost use Rattle.prt_questions.specs.Asking.{called, said, text_form};
 ghost use Rattle.prt_import.specs.TableNames.{names_of};
 
@@ -56,7 +57,8 @@ pub(crate) fn said(
     version: &Version,
     inquiry: &Inquiry<'_>,
 ) -> Result<Answered, NotAnswered>
-    ensures { IfOk result (λ made. made.text.items ≡ said inquiry.now version.now) }
+    ensures text { IfOk result (λ made. made.text.items ≡ said inquiry.now version.now) }
+    ensures notes { IfOk result (λ made. AreNotes inquiry.now.question version.now made.notes) }
 {
     let Answered { text, notes } = match answer(alloc, version, &inquiry.question) {
         Ok(made) => made,

@@ -1,7 +1,8 @@
 //! What is reported of lines that are left out.
 ghost use Rattle.std.specs.Prelude.{◌≡◌, ◌≢◌, ◌⊎◌, false};
 ghost use Rattle.std.specs.List.{list_all};
-ghost use Rattle.prt_questions.specs.Asking.{AreKernels, destination_of, is_kernels};
+ghost use Rattle.prt_questions.specs.Asking.{destination_of};
+ghost use Rattle.prt_questions.specs.LeftOut.{AreKernels, is_kernels};
 
 use crate::asking::REFUSED;
 use crate::reading::is_newline;
@@ -29,7 +30,7 @@ fn left_message(alloc: Global, file: Option<&str>, left: &Left) -> Result<String
 }
 
 /// Checks whether the kernel makes a line itself.
-fn is_kernels(line: &Left) -> bool
+pub(crate) fn is_kernels(line: &Left) -> bool
     ensures { result ≡ is_kernels line.now }
 {
     matches!(line.reason, Reason::Kernel)

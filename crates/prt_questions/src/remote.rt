@@ -1,9 +1,9 @@
 //! What a server says: its feed the tables, a session the reply to a line.
-ghost use Rattle.std.specs.Prelude.{◌≡◌, ◌++◌, IfOk, IfSome, codes};
+ghost use Rattle.std.specs.Prelude.{◌≡◌, ◌++◌, IfOk, IfSome, List, codes, true, ℕ};
 ghost use Rattle.std.specs.Io.Buffered.{reader_remaining};
 ghost use Rattle.std.specs.Io.KnownBytes.{Keeps};
-ghost use Rattle.prt_questions.specs.Sources.{AreTold};
-ghost use Rattle.prt_questions.specs.Told.{IsFeedBefore, IsReached, IsToldBy, IsToldIn};
+ghost use Rattle.prt_questions.specs.Sources.{AreTold, IsHeard};
+ghost use Rattle.prt_questions.specs.Told.{IsFeedBefore, IsInquiry, IsQueryLine, IsReached, IsToldBy, IsToldIn};
 
 use crate::local::{LocalNet, Socket};
 use crate::reading::last_line;
@@ -104,6 +104,22 @@ fn first_byte<R: Read>(reader: &mut BufReader<R>) -> io::Result<Option<u8>>
     Ok(reader.fill_buf()?.first().copied())
 }
 
+/// Checks whether nothing comes for a second. What came is still to be read; calls wait for longer again.
+fn is_silent<T: Read + OpenStream>(reader: &mut BufReader<T>, stream: &T) -> io::Result<bool>
+    ensures { Keeps (reader_remaining T.remaining reader.old) (reader_remaining T.remaining reader.new) }
+{
+    stream.set_read_timeout(Some(Duration::from_secs(TRY)))?;
+    let came = first_byte(reader);
+    stream.set_read_timeout(Some(Duration::from_secs(PATIENCE)))?;
+    match came {
+        Ok(_) => Ok(false),
+        Err(error) => match error.kind() {
+            ErrorKind::WouldBlock | ErrorKind::TimedOut => Ok(true),
+            _ => Err(error),
+        },
+    }
+}
+
 /// Checks whether a feed is at the other end, or one that was closed at once. What is silent for a second gets a query, which a
 /// session answers.
 fn is_feed<T: Read + Write + OpenStream>(
@@ -112,23 +128,14 @@ fn is_feed<T: Read + Write + OpenStream>(
 ) -> io::Result<bool>
     ensures { Keeps (reader_remaining T.remaining reader.old) (reader_remaining T.remaining reader.new) }
 {
-    stream.set_read_timeout(Some(Duration::from_secs(TRY)))?;
-    let came = first_byte(reader);
-    stream.set_read_timeout(Some(Duration::from_secs(PATIENCE)))?;
-    let first = match came {
-        Ok(first) => first,
-        Err(error) => match error.kind() {
-            ErrorKind::WouldBlock | ErrorKind::TimedOut => {
-                stream.write_all(QUERY)?;
-                first_byte(reader)?
-            }
-            _ => return Err(error),
-        },
-    };
+    if is_silent(reader, stream)? {
+        stream.write_all(QUERY)?;
+    }
+    let first = first_byte(reader)?;
     Ok(first.is_none() || first == Some(FEED))
 }
 
-/// Connects to the sessions of a server, or to its feed if the sessions of its folder may not be opened, and sends this.
+/// Connects to the sessions of a server, or to its feed if the sessions of its folder may not be opened, and sends this query.
 fn reach_to_ask<N: LocalNet>(
     rt: &N,
     alloc: Global,
@@ -136,6 +143,7 @@ fn reach_to_ask<N: LocalNet>(
     patience: Duration,
     sent: &[u8],
 ) -> io::Result<N::Stream>
+    requires { IsInquiry sent.now }
     ensures { IfOk result (IsReached N.reaches rt.now place.now sent.now) }
 {
     match rt.reach(alloc, place, Socket::Session, patience, sent) {
@@ -212,7 +220,9 @@ pub(crate) fn is_there<N: LocalNet>(
     rt: &N,
     alloc: Global,
     place: &ServerPlace<'_>,
-) -> io::Result<bool> {
+) -> io::Result<bool>
+    ensures { IfOk result (λ is. is ≡ true → IsHeard N.reaches N.Stream.remaining rt.now place.now) }
+{
     let mut stream = reach_to_ask(rt, alloc, place, Duration::from_secs(TRY), QUERY)?;
     let mut byte = [0u8; 1];
     let count = stream.read(&mut byte)?;
@@ -255,13 +265,14 @@ fn read_told<R: Read>(alloc: Global, reader: &mut BufReader<R>) -> Result<Told, 
     }
 }
 
-/// Connects to a server as `reach_to_ask` does, and sends it a line, which is all that it is sent.
+/// Connects to a server as `reach_to_ask` does, and sends it the line of a query, which is all that it is sent.
 fn send_line<N: LocalNet>(
     rt: &N,
     alloc: Global,
     place: &ServerPlace<'_>,
     line: &[u8],
 ) -> Result<N::Stream, NotTold>
+    requires { IsQueryLine line.now }
     ensures { IfOk result (IsReached N.reaches rt.now place.now (line.now ++ codes "\n")) }
 {
     let patience = Duration::from_secs(PATIENCE);
@@ -273,17 +284,38 @@ fn send_line<N: LocalNet>(
     Ok(stream)
 }
 
-/// Sends the line of a query to a server, and reads what it says: a session the reply, a feed the tables.
+/// Reads the tables of the feed in a server's folder. It has clients of its own, so it answers also if all workers are busy.
+fn told_by_feed<N: LocalNet>(rt: &N, alloc: Global, place: &ServerPlace<'_>) -> Option<Told>
+    ensures { (line : List ℕ) → IfSome result (IsToldBy N.reaches N.Stream.remaining rt.now place.now line) }
+{
+    match place {
+        ServerPlace::Folder(_) => match read_tables(rt, alloc, place) {
+            Ok(version) => Some(Told::Tables(version)),
+            Err(_) => None,
+        },
+        ServerPlace::Address(_) => None,
+    }
+}
+
+/// Sends the line of a query to a server, and reads what it says: a session the reply, a feed the tables. If a session of a
+/// server's folder says nothing for a second, its feed is read in its place, if that may be opened.
 pub(crate) fn ask_line<N: LocalNet>(
     rt: &N,
     alloc: Global,
     place: &ServerPlace<'_>,
     line: &[u8],
 ) -> Result<Told, NotTold>
+    requires { IsQueryLine line.now }
     ensures { IfOk result (IsToldBy N.reaches N.Stream.remaining rt.now place.now line.now) }
 {
     let stream = send_line(rt, alloc, place, line)?;
+    let same = stream.try_clone()?;
     let mut reader = BufReader::new(alloc, stream)?;
+    if is_silent(&mut reader, &same)? {
+        if let Some(told) = told_by_feed(rt, alloc, place) {
+            return Ok(told);
+        }
+    }
     read_told(alloc, &mut reader)
 }
 

@@ -2,7 +2,7 @@
 ghost use Rattle.std.specs.Prelude.{◌≡◌, ◌≢◌, ◌⊎◌, ◌++◌, IfErr, IfOk, IfSome, List, OnErr, Option, [], codes, ℕ};
 ghost use Rattle.std.specs.Io.KnownBytes.{Appends};
 ghost use Rattle.prt_questions.specs.Sources.{IsAtomicReply, IsFileOf, IsRead, path_of, sources_of};
-ghost use Rattle.prt_questions.specs.Submitting.{EndsWith, IsAllMade, IsQuiet, IsReadOf, IsSent, IsSubmitted, IsVerdictOf, fault_by, refused_by};
+ghost use Rattle.prt_questions.specs.Submitting.{EndsWith, IsAllMade, IsAnsweredBy, IsQuiet, IsReadOf, IsSent, IsSubmitted, IsVerdictOf, fault_by, refused_by};
 ghost use Rattle.prt_refusals.specs.Refusal.{refusal_text};
 ghost use Rattle.prt_refusals.specs.declared.refusal.Refusal.{Refusal};
 ghost use Rattle.prt_refusals.specs.declared.refusal.Refusal.TheVariants.{NoMemory, ReadFault};
@@ -115,6 +115,34 @@ fn write_verdict<W: Write>(reply: &[u8], refusal: Option<Refusal>, output: &mut 
     end.with_write_fault()
 }
 
+/// Sends a server the commands of a script that was read, and writes its reply. There are some, and no line was refused.
+///
+/// # Errors
+///
+/// Why it is not known that it made all of them or none: nothing is written.
+fn send_commands<N: LocalNet, W: Write>(
+    rt: &N,
+    alloc: Global,
+    place: &ServerPlace<'_>,
+    read: &CommandsRead,
+    output: &mut W,
+) -> Result<ScriptEnd, NotTold>
+    requires quiet { IsQuiet read.now.end }
+    requires some { read.now.commands.items ≢ [] }
+    ensures sent { IfOk result (IsAnsweredBy (IsAtomicReply N.reaches N.Stream.remaining rt.now place.now) read.now.commands.items (W.contents output.old) (W.contents output.new)) }
+    ensures unwritten { OnErr result (W.contents output.new ≡ W.contents output.old) }
+{
+    let commands = &read.commands;
+    // A session would make the lines one by one. The name of a socket leaves no doubt.
+    if let ServerPlace::Address(_) = place {
+        expect_atomic(rt, alloc, place)?;
+    }
+    let sent = submission_text(alloc, commands)?;
+    let reply = exchange(rt, alloc, place, &sent)?;
+    let refusal = verdict(alloc, &reply, commands.len())?;
+    Ok(write_verdict(&reply, refusal, output))
+}
+
 /// Has a server make the commands of a script that was read, unless a line was refused or there is none, and writes its reply.
 ///
 /// # Errors
@@ -135,14 +163,7 @@ fn submit<N: LocalNet, W: Write>(
     if end.refused || end.fault.is_some() || commands.is_empty() {
         return Ok(*end);
     }
-    // A session would make the lines one by one. The name of a socket leaves no doubt.
-    if let ServerPlace::Address(_) = place {
-        expect_atomic(rt, alloc, place)?;
-    }
-    let sent = submission_text(alloc, commands)?;
-    let reply = exchange(rt, alloc, place, &sent)?;
-    let refusal = verdict(alloc, &reply, commands.len())?;
-    Ok(write_verdict(&reply, refusal, output))
+    send_commands(rt, alloc, place, read, output)
 }
 
 /// Reads a script up to the first line that is refused, and collects its commands; the refusal is written.

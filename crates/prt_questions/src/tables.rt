@@ -3,7 +3,8 @@ ghost use Rattle.std.specs.Prelude.{◌≡◌, ◌⊎◌, IfErr, IfOk, List, OnO
 ghost use Rattle.prt_import.specs.Accepted.{IsExecuted};
 ghost use Rattle.prt_import.specs.declared.accepted.Accepted.{Accepted as AcceptedOf};
 ghost use Rattle.prt_questions.specs.Analyses.{HaveTables, IsNotRead};
-ghost use Rattle.prt_questions.specs.Asking.{AreKernels, IsAskedAt, IsNotOpened};
+ghost use Rattle.prt_questions.specs.Asking.{IsAskedAt, IsNotOpened};
+ghost use Rattle.prt_questions.specs.LeftOut.{AreKernels};
 ghost use Rattle.prt_questions.specs.Sources.{AreTold, HasLeft, IsFileOf, IsRead, path_of, rest_after, rest_by, sources_of};
 
 use crate::asking::{REFUSED, run_over_new};

@@ -25,5 +25,5 @@ import --db a.db listing
 import --db a.db missing
 import --db /missing/a.db listing
 import --db a.db --server 127.0.0.1:1
-printf '300:	from all goto 400\n' | import --db c.db
+printf '300:	from all goto 400\ndefault dev eth0 scope link\n' | import --db c.db
 "$prt" show --db c.db rule

@@ -30,9 +30,10 @@ def run(*words, input=None):
 
 
 def said(text):
-    """The lines that import makes of a text, and what it tells of it, but for the text itself."""
+    """The lines that import makes of a text that ends with the first rule, and what it tells of it, except for that rule and the text."""
     told = run(PROGRAM, "import", input=text)
-    lines = [line for line in told.stdout.splitlines() if line not in ("rule flush", "rule del priority 0") and not line.startswith("#")]
+    same = ("rule flush", "rule del priority 0", "rule add priority 0 from all lookup local")
+    lines = [line for line in told.stdout.splitlines() if line not in same and not line.startswith("#")]
     # `ip` says "realm" of one realm, and its JSON has no word for that.
     return lines + [re.sub(r"line \d+: |: (300:|(\w+ )?10\.9\.0\.0/16).*", "", line).replace("realms:", "realm:") for line in told.stderr.splitlines()]
 
@@ -41,7 +42,9 @@ def tell(add, remove, listing):
     """Adds, tells and removes, where `ip` can make it."""
     if run(*IP, "-4", *add.split()).returncode != 0:
         return False
-    lines, of_json = (said(run(*IP, *flags, "-4", *listing).stdout) for flags in ((), ("-j",)))
+    # A listing of which nothing can be kept is none, so the first rule is in each.
+    listings = (listing, ("rule", "show", "priority", "0"))
+    lines, of_json = (said("".join(run(*IP, *flags, "-4", *words).stdout for words in listings)) for flags in ((), ("-j",)))
     print(add, *lines, sep="\n\t")
     if lines != of_json:
         print("otherwise with -j:", *of_json, sep="\n\t")

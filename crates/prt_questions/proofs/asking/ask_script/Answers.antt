@@ -1,7 +1,9 @@
 use Rattle.std.proofs.Common.{inr, subst}
 use Rattle.prt_import.specs.Accepted.{IsExecuted}
-use Rattle.prt_questions.specs.Asking.{AreKernels, said}
+use Rattle.prt_questions.specs.Asking.{said}
+use Rattle.prt_questions.specs.LeftOut.{AreKernels}
 use Rattle.prt_questions.proofs.Statuses.{both_done}
+use Rattle.prt_questions.proofs.Asked.{whole_answer}
 use Rattle.prt_questions.proofs.asking.ask_script.Goals as goal
 
 pub returns-clause-whole : goal.returns-clause-whole
@@ -12,7 +14,8 @@ returns-clause-whole g c = λ done.
       c.in-Ok.ensures.read,
       subst (IsExecuted c.in-Ok-run_over_new.made) c.deref.ensures.value c.in-Ok-run_over_new.ensures.made,
       subst AreKernels c.deref-2.ensures.value (c.tell_left-left.ensures.kernels both.1),
-      rw (← c.in-Ok.ensures.unwritten, ← c.in-Ok-run_over_new.ensures.unwritten) (c.write_answer-written.ensures.whole (said c.args.inquiry.now c.in-Ok-run_over_new.made.version) c.said-answered.ensures both.0),
+      rw (← c.in-Ok.ensures.unwritten, ← c.in-Ok-run_over_new.ensures.unwritten) (c.write_answer-written.ensures.whole (said c.args.inquiry.now c.in-Ok-run_over_new.made.version) c.said-answered.ensures.text both.0),
+      whole_answer c.args.inquiry.now.question c.in-Ok-run_over_new.made.version c.said-answered.result c.said-answered.ensures.notes (c.write_answer-written.ensures.change both.0),
     )
 
 pub returns-clause-part : goal.returns-clause-part
@@ -21,5 +24,5 @@ returns-clause-part g c = inr (
   c.in-Ok.script.items,
   c.in-Ok.ensures.read,
   subst (IsExecuted c.in-Ok-run_over_new.made) c.deref.ensures.value c.in-Ok-run_over_new.ensures.made,
-  rw (← c.in-Ok.ensures.unwritten, ← c.in-Ok-run_over_new.ensures.unwritten) (c.write_answer-written.ensures.part (said c.args.inquiry.now c.in-Ok-run_over_new.made.version) c.said-answered.ensures),
+  rw (← c.in-Ok.ensures.unwritten, ← c.in-Ok-run_over_new.ensures.unwritten) (c.write_answer-written.ensures.part (said c.args.inquiry.now c.in-Ok-run_over_new.made.version) c.said-answered.ensures.text),
 )

@@ -11,7 +11,7 @@ pub returns-in-Database-clause-at_most : goal.returns-in-Database-clause-at_most
 returns-in-Database-clause-at_most g c = rw c.in-Database.is c.ask_database.ensures.at_most
 
 pub returns-in-Script-clause-whole : goal.returns-in-Script-clause-whole
-returns-in-Script-clause-whole g c = rw c.in-Script.is (λ done. let answered = c.ask_script.ensures.whole done in (refl, answered.0, answered.1, answered.2, answered.3, answered.4, answered.5))
+returns-in-Script-clause-whole g c = rw c.in-Script.is (λ done. let answered = c.ask_script.ensures.whole done in (refl, answered.0, answered.1, answered.2, answered.3, answered.4, answered.5, answered.6))
 
 pub returns-in-Script-clause-at_most : goal.returns-in-Script-clause-at_most
 returns-in-Script-clause-at_most g c =
@@ -19,7 +19,7 @@ returns-in-Script-clause-at_most g c =
     rw c.in-Script.is (of_script c.args.databases.now.machine (IsRead (IsFileOf g.F.ReadFiles.opens g.F.Opened.Read.remaining c.args.databases.now.files.now) (g.R.Read.remaining c.args.input.now) (path_of c.in-Script.file)) (contents c.args.output.now) (contents c.ask_script.new.output) (said c.args.inquiry.now) c.ask_script.ensures.part)
 
 pub returns-in-Server-clause-whole : goal.returns-in-Server-clause-whole
-returns-in-Server-clause-whole g c = rw c.in-Server.is (λ done. let answered = c.ask_server.ensures.whole done in (refl, answered.0, answered.1, answered.2))
+returns-in-Server-clause-whole g c = rw c.in-Server.is (λ done. let answered = c.ask_server.ensures.whole done in (refl, answered.0, answered.1, (answered.2, answered.3)))
 
 pub returns-in-Server-clause-at_most : goal.returns-in-Server-clause-at_most
 returns-in-Server-clause-at_most g c =

@@ -1,7 +1,9 @@
-use Rattle.std.proofs.Common.{◌≡◌, ◌⊎◌, ℕ, List, inl, subst}
+use Rattle.std.proofs.Common.{◌≡◌, ◌⊎◌, ℕ, List, inl, subst, sym}
 use Rattle.std.specs.Io.KnownBytes.{Appends}
 use Rattle.prt_questions.specs.Asking.{IsCutOff, IsTold}
 use Rattle.prt_questions.proofs.Asked.{or_query, told_at_most, told_whole}
+use Rattle.prt_questions.proofs.QueryLines.{query_line}
+use Rattle.prt_questions.specs.Told.{IsQueryLine}
 use Rattle.prt_questions.specs.Sources.{sources_of}
 use Rattle.prt_questions.proofs.asking.ask_tables.Goals as goal
 
@@ -20,7 +22,7 @@ returns-in-Some-clause-whole g c = λ done.
     let place = c.in-Some.place in
     let told =
     subst (λ line. (text : List ℕ) × IsTold (from.tells place) (from.replies place line) inquiry text × Appends writer0 writer text) c.deref.ensures.value (c.ask_session.ensures.whole done) in
-    or_query c.in-Some.ensures.1 (rw c.in-Some.ensures.0 (told_whole g.S.Store g.M.Machine.opens g.M.Machine.refuses g.M.Machine.closes from c.args.databases.now.machine writer0 writer place c.args.asking.now.line.items inquiry told.0 told.1 told.2))
+    or_query c.in-Some.ensures.1 (rw c.in-Some.ensures.0 (told_whole g.S.Store g.M.Machine.opens g.M.Machine.refuses g.M.Machine.closes from c.args.databases.now.machine writer0 writer place c.args.asking.now.line.items inquiry told.0 c.in-Some.ensures.1 told.1 told.2))
 
 pub returns-in-Some-clause-at_most : goal.returns-in-Some-clause-at_most
 returns-in-Some-clause-at_most g c =
@@ -32,3 +34,8 @@ returns-in-Some-clause-at_most g c =
     let part =
     subst (λ line. (writer ≡ writer0) ⊎ ((text : List ℕ) × IsTold (from.tells place) (from.replies place line) inquiry text × IsCutOff text writer0 writer)) c.deref.ensures.value c.ask_session.ensures.part in
     or_query c.in-Some.ensures.1 (rw c.in-Some.ensures.0 (told_at_most g.S.Store g.M.Machine.opens g.M.Machine.refuses g.M.Machine.closes from c.args.databases.now.machine writer0 writer place c.args.asking.now.line.items inquiry part))
+
+pub ask_session-requires : goal.ask_session-requires
+ask_session-requires g c =
+    let asking = c.args.asking.now in
+    subst IsQueryLine (sym c.deref.ensures.value) (query_line asking.verb asking.line.items asking.form c.args.inquiry.now.question c.requires c.in-Some.ensures.1)

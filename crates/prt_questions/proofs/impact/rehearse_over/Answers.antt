@@ -2,7 +2,7 @@ use Rattle.std.proofs.Common.{rules, ◌≡◌, ◌⊎◌, false, refl, inl, sub
 use Rattle.std.specs.List.{list_all}
 use Rattle.prt_import.specs.Accepted.{IsExecutedOver}
 use Rattle.prt_questions.specs.Analyses.{IsRehearsed, IsRehearsedAtMost}
-use Rattle.prt_questions.specs.Asking.{AreKernels, is_kernels}
+use Rattle.prt_questions.specs.LeftOut.{AreKernels, is_kernels}
 use Rattle.prt_questions.specs.Sources.{IsFileOf, IsRead, path_of}
 use Rattle.prt_questions.specs.declared.asking.TheConstants.{REFUSED}
 use Rattle.prt_words.specs.declared.fault.TheConstants.{DONE}

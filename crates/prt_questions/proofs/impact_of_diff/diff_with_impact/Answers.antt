@@ -1,6 +1,6 @@
 use Rattle.std.proofs.Common.{◌≡◌, ◌⊎◌, ℕ, List, subst}
 use Rattle.std.specs.Io.KnownBytes.{Appends}
-use Rattle.prt_questions.specs.Asking.{IsCutOff, IsWithImpact}
+use Rattle.prt_questions.specs.Asking.{IsCutOff, IsWholeChange, IsWithImpact}
 use Rattle.prt_questions.specs.Sources.{sources_of}
 use Rattle.prt_questions.proofs.ReadTables.{of_tables, of_tables_at_most}
 use Rattle.prt_questions.proofs.impact_of_diff.diff_with_impact.Goals as goal
@@ -13,8 +13,8 @@ returns-clause-whole g c = λ done.
     let fence = c.args.comparison.now.fence.now in
     let found = c.args.comparison.now.found.now in
     of_tables g.S.Store g.M.Machine.opens g.M.Machine.refuses g.M.Machine.closes from c.args.databases.now.machine c.tables_at.new.databases.machine c.args.source.now c.in-Ok.tables.left c.in-Ok.tables.version
-    (λ state. (text : List ℕ) × IsWithImpact fence found state text × Appends writer0 writer text) c.in-Ok.ensures.read
-    (subst (λ first. (text : List ℕ) × IsWithImpact fence found c.in-Ok.tables.version text × Appends first writer text) c.in-Ok.ensures.unwritten (c.write_difference.ensures.whole done))
+    (λ state. (text : List ℕ) × IsWithImpact fence found state text × Appends writer0 writer text × IsWholeChange fence found state) c.in-Ok.ensures.read
+    (subst (λ first. (text : List ℕ) × IsWithImpact fence found c.in-Ok.tables.version text × Appends first writer text × IsWholeChange fence found c.in-Ok.tables.version) c.in-Ok.ensures.unwritten (c.write_difference.ensures.whole done))
 
 pub returns-clause-at_most : goal.returns-clause-at_most
 returns-clause-at_most g c =

@@ -1,5 +1,5 @@
 use Rattle.std.proofs.Common.{◌∙◌, Some, rules, sym}
-use Rattle.prt_questions.specs.Asking.{said}
+use Rattle.prt_questions.specs.Asking.{IsWholeAnswer, said}
 use Rattle.prt_questions.specs.Sources.{sources_of}
 use Rattle.prt_questions.proofs.Asked.{asked_or_not, none_there, says_nothing}
 use Rattle.prt_questions.proofs.importing.compare.Goals as goal
@@ -8,7 +8,7 @@ pub returns-then-is_empty-clause-same : goal.returns-then-is_empty-clause-same
 returns-then-is_empty-clause-same g c = λ done.
     let from = sources_of g.F.ReadFiles.opens g.F.Opened.Read.remaining c.args.databases.now.files.now g.N.LocalNet.reaches g.N.Stream.Read.remaining c.args.databases.now.rt (g.R.Read.remaining c.args.input.now) in
     let none = sym c.as_slice.ensures.value ∙ none_there c.as_slice.result.now (sym c.is_empty.ensures ∙ c.if-is_empty.true) in
-    says_nothing g.S.Store g.M.Machine.opens g.M.Machine.refuses g.M.Machine.closes from c.args.databases.now.machine c.ask_source-asked.new.databases.machine c.args.source.now (said c.args.inquiry.now)
+    says_nothing g.S.Store g.M.Machine.opens g.M.Machine.refuses g.M.Machine.closes from c.args.databases.now.machine c.ask_source-asked.new.databases.machine c.args.source.now (said c.args.inquiry.now) (IsWholeAnswer c.args.inquiry.now.question)
     c.new-lines.result.items c.ask_source-asked.new.output.items c.new-lines.ensures.items none (c.ask_source-asked.ensures.whole (search (rules, c.if-asked-ne-DONE.false)))
 
 pub returns-then-asked-ne-DONE-clause-part : goal.returns-then-asked-ne-DONE-clause-part

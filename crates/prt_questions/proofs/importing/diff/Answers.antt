@@ -20,7 +20,7 @@ returns-clause-whole g c = λ done.
     let both = both_done _ _ _ c.or_left.ensures done in
     let shows = shown_later g.S.Store g.M.Machine.opens g.M.Machine.refuses g.M.Machine.closes from (rest_after file) (g.R.Read.remaining c.read_fenced.new.input) c.in-Ok.ensures.left old new (g.W.Write.contents c.read_fenced.new.output) writer shown fence found source (c.show_difference-shown.ensures.whole both.0) in
     subst (λ (writer0 : Option (List ℕ)). HasCompared g.S.Store g.M.Machine.opens g.M.Machine.refuses g.M.Machine.closes from old new writer0 writer file c.args.diffing.now.reach shown source) c.in-Ok.ensures.unwritten
-    (compared g.S.Store g.M.Machine.opens g.M.Machine.refuses g.M.Machine.closes from old new (g.W.Write.contents c.read_fenced.new.output) writer file c.args.diffing.now.reach source shown fence found (c.in-Ok.ensures.kept both.1) c.in-Ok.ensures.fence shows)
+    (compared g.S.Store g.M.Machine.opens g.M.Machine.refuses g.M.Machine.closes from old new (g.W.Write.contents c.read_fenced.new.output) writer file c.args.diffing.now.reach source shown found fence (c.in-Ok.ensures.kept both.1) shows)
 
 pub returns-clause-at_most : goal.returns-clause-at_most
 returns-clause-at_most g c =
@@ -35,4 +35,4 @@ returns-clause-at_most g c =
     let found = c.in-Ok.listing.found in
     let shows = shown_at_most_later g.S.Store g.M.Machine.opens g.M.Machine.refuses g.M.Machine.closes from (rest_after file) (g.R.Read.remaining c.read_fenced.new.input) c.in-Ok.ensures.left old new (g.W.Write.contents c.read_fenced.new.output) writer shown fence found source c.show_difference-shown.ensures.at_most in
     subst (λ (writer0 : Option (List ℕ)). HasComparedAtMost g.S.Store g.M.Machine.opens g.M.Machine.refuses g.M.Machine.closes from old new writer0 writer file c.args.diffing.now.reach shown source) c.in-Ok.ensures.unwritten
-    (compared_at_most g.S.Store g.M.Machine.opens g.M.Machine.refuses g.M.Machine.closes from old new (g.W.Write.contents c.read_fenced.new.output) writer file c.args.diffing.now.reach source shown fence found c.in-Ok.ensures.made c.in-Ok.ensures.fence shows)
+    (compared_at_most g.S.Store g.M.Machine.opens g.M.Machine.refuses g.M.Machine.closes from old new (g.W.Write.contents c.read_fenced.new.output) writer file c.args.diffing.now.reach source shown found fence c.in-Ok.ensures.made shows)

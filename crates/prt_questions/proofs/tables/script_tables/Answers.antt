@@ -1,6 +1,6 @@
 use Rattle.std.proofs.Common.{refl, subst}
 use Rattle.prt_import.specs.Accepted.{IsExecuted}
-use Rattle.prt_questions.specs.Asking.{AreKernels}
+use Rattle.prt_questions.specs.LeftOut.{AreKernels}
 use Rattle.prt_questions.proofs.tables.script_tables.Goals as goal
 
 pub returns-clause-read : goal.returns-clause-read
