@@ -9,8 +9,8 @@ use Rattle.prt_diff.specs.Replacing.{AreLeftOut, replacing_text}
 use Rattle.prt_diff.specs.Text.{changes_text}
 use Rattle.prt_diff.specs.declared.fence.Fence.{Fence}
 use Rattle.prt_dump.specs.PutBack.{IsWhyNot, dump_text}
-use Rattle.prt_dump.specs.declared.refusal.NotDumped.{NotDumped}
-use Rattle.prt_dump.specs.declared.refusal.NotDumped.TheVariants as dumps
+use Rattle.prt_dump.specs.declared.refusal.DumpError.{DumpError}
+use Rattle.prt_dump.specs.declared.refusal.DumpError.TheVariants as dumps
 use Rattle.prt_explain.specs.Explanation.{explanation_text}
 use Rattle.json.specs.Json.{Json}
 use Rattle.prt_json.specs.ExplanationJson.{explanation_json}
@@ -18,11 +18,11 @@ use Rattle.prt_json.specs.Fields.{json_line}
 use Rattle.prt_json.specs.Json.{answer_json, routes_json, rules_json, tables_json}
 use Rattle.prt_listing.specs.QueryText.{query_text}
 use Rattle.prt_version.specs.State.{State}
-use Rattle.prt_words.specs.declared.asking.Form.TheVariants.{Lines, Json as InJson}
+use Rattle.prt_args.specs.declared.asking.Form.TheVariants.{Lines, Json as InJson}
 use Rattle.prt_ask.specs.declared.notes.Notes.{Notes}
 use Rattle.prt_ask.specs.declared.question.Question.{Question}
-use Rattle.prt_ask.specs.declared.refusal.NotAnswered.{NotAnswered}
-use Rattle.prt_ask.specs.declared.refusal.NotAnswered.TheVariants.{Rule, Route, Change, NoMemory}
+use Rattle.prt_ask.specs.declared.refusal.AnswerError.{AnswerError}
+use Rattle.prt_ask.specs.declared.refusal.AnswerError.TheVariants.{Rule, Route, Change, NoMemory}
 use Rattle.prt_ask.specs.declared.question.Question.TheVariants as questions
 
 -- as `ip -j` answers a query
@@ -43,18 +43,18 @@ answer (questions.Explain packet InJson) state = json_line (explanation_json sta
 answer (questions.Diff comparison) state = changes_text comparison.fence.now comparison.found.now state
 
 -- why there is no dump, as why there is no answer
-abbrev pub as_answer : NotDumped → NotAnswered
+abbrev pub as_answer : DumpError → AnswerError
 as_answer (dumps.Rule place) = Rule place
 as_answer (dumps.Route place) = Route place
 as_answer dumps.NoMemory = NoMemory
 
 -- a change has no line, or memory is refused
-abbrev pub IsOfChange : NotAnswered → Type 0
+abbrev pub IsOfChange : AnswerError → Type 0
 IsOfChange reason = (reason ≡ Change) ⊎ (reason ≡ NoMemory)
 
 -- why a state has no answer: a dump in lines has a row without a line, or a difference a change without one; and memory may be refused
-abbrev pub IsNotAnswered : Question → State → NotAnswered → Type 0
-IsNotAnswered (questions.Dump Lines) state reason = (why : NotDumped) × IsWhyNot state why × (reason ≡ as_answer why)
+abbrev pub IsNotAnswered : Question → State → AnswerError → Type 0
+IsNotAnswered (questions.Dump Lines) state reason = (why : DumpError) × IsWhyNot state why × (reason ≡ as_answer why)
 IsNotAnswered questions.Replace state reason = IsOfChange reason
 IsNotAnswered (questions.Diff comparison) state reason = IsOfChange reason
 IsNotAnswered question state reason = reason ≡ NoMemory

@@ -6,9 +6,9 @@ use Rattle.prt_command.specs.declared.request.Request.{Request}
 use Rattle.prt_command.specs.declared.request.Request.TheVariants as requests
 use Rattle.prt_refusals.specs.declared.refusal.Refusal.{Refusal}
 use Rattle.prt_refusals.specs.declared.refusal.Refusal.TheVariants.{UnknownVerb}
-use Rattle.prt_words.specs.declared.asking.Form.{Form}
-use Rattle.prt_words.specs.declared.asking.Verb.{Verb}
-use Rattle.prt_words.specs.declared.asking.Verb.TheVariants as verbs
+use Rattle.prt_args.specs.declared.asking.Form.{Form}
+use Rattle.prt_args.specs.declared.asking.Verb.{Verb}
+use Rattle.prt_args.specs.declared.asking.Verb.TheVariants as verbs
 use Rattle.prt_ask.specs.declared.question.Question.{Question}
 use Rattle.prt_ask.specs.declared.question.Question.TheVariants as questions
 

@@ -7,7 +7,8 @@ ghost use Rattle.prt_json.specs.Fields.{json_line};
 use crate::difference::find_difference;
 use crate::notes::Notes;
 use crate::question::{Comparison, Question};
-use crate::refusal::NotAnswered;
+use crate::refusal::AnswerError;
+use prt_args::Form;
 use prt_command::{Query, Refusal};
 use prt_diff::{left_out_of_replacing, replacing_text};
 use prt_dump::dump_text;
@@ -15,7 +16,6 @@ use prt_explain::explanation_text;
 use prt_json::{answer_json, explanation_json, routes_json, rules_json, tables_json};
 use prt_listing::query_text;
 use prt_version::Version;
-use prt_words::Form;
 use std::alloc::Global;
 
 /// Appends the JSON that answers a query.
@@ -47,7 +47,7 @@ fn compared(
     alloc: Global,
     comparison: &Comparison<'_>,
     wanted: &Version,
-) -> Result<Answered, NotAnswered>
+) -> Result<Answered, AnswerError>
     ensures text { IfOk result (λ made. made.text.items ≡ changes_text comparison.now.fence.now comparison.now.found.now wanted.now) }
     ensures notes { IfOk result (λ made. AreNotesOf comparison.now.fence.now comparison.now.found.now wanted.now made.notes) }
     ensures reason { IfErr result IsOfChange }
@@ -61,7 +61,7 @@ fn answer_text(
     alloc: Global,
     version: &Version,
     question: &Question<'_>,
-) -> Result<Vec<u8>, NotAnswered>
+) -> Result<Vec<u8>, AnswerError>
     requires { IsPlainQuestion question.now }
     ensures text { IfOk result (λ text. text.items ≡ answer question.now version.now) }
     ensures reason { IfErr result (IsNotAnswered question.now version.now) }
@@ -79,7 +79,7 @@ fn answer_text(
     };
     match pushed {
         Ok(()) => Ok(text),
-        Err(_) => Err(NotAnswered::NoMemory),
+        Err(_) => Err(AnswerError::NoMemory),
     }
 }
 
@@ -92,7 +92,7 @@ pub fn answer(
     alloc: Global,
     version: &Version,
     question: &Question<'_>,
-) -> Result<Answered, NotAnswered>
+) -> Result<Answered, AnswerError>
     ensures text { IfOk result (λ made. made.text.items ≡ answer question.now version.now) }
     ensures notes { IfOk result (λ made. AreNotes question.now version.now made.notes) }
     ensures reason { IfErr result (IsNotAnswered question.now version.now) }

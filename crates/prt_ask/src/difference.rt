@@ -6,7 +6,7 @@ ghost use Rattle.prt_diff.specs.Text.{changes_text};
 
 use crate::answers::Answered;
 use crate::notes::Notes;
-use crate::refusal::NotAnswered;
+use crate::refusal::AnswerError;
 use prt_command::Command;
 use prt_diff::{Changes, Fence, batch_text, changes, count_outside};
 use prt_version::Version;
@@ -29,7 +29,7 @@ pub(crate) fn find_difference(
     fence: &Fence,
     found: &Version,
     wanted: &Version,
-) -> Result<Difference, NotAnswered>
+) -> Result<Difference, AnswerError>
     ensures commands { IfOk result (λ difference. difference.commands.items ≡ changes fence.now found.now wanted.now) }
     ensures text { IfOk result (λ difference. difference.answer.text.items ≡ changes_text fence.now found.now wanted.now) }
     ensures notes { IfOk result (λ difference. AreNotesOf fence.now found.now wanted.now difference.answer.notes) }

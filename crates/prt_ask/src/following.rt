@@ -7,8 +7,8 @@ ghost use Rattle.prt_feed.specs.declared.change.Change.{Change};
 
 use crate::mirror::Mirror;
 use crate::notes::Notes;
-use crate::refusal::NotAnswered;
-use prt_feed::{Change, NotRead, read_change};
+use crate::refusal::AnswerError;
+use prt_feed::{Change, OpeningError, read_change};
 use prt_replies::write_bytes;
 use std::alloc::Global;
 use std::io::{Read, Write};
@@ -17,9 +17,9 @@ use std::io::{Read, Write};
 #[derive(Clone, Copy, Debug, PartialEq, Eq)]
 pub enum FollowEnd {
     /// The feed ended, or told no change.
-    Feed(NotRead),
+    Feed(OpeningError),
     /// There were no lines for a change.
-    NoLines(NotAnswered),
+    NoLines(AnswerError),
     /// Lines could not be written.
     Unwritten,
 }
@@ -91,5 +91,5 @@ pub fn follow<R: Read, W: Write, E: Write>(
             return end;
         }
     }
-    FollowEnd::Feed(NotRead::CutOff)
+    FollowEnd::Feed(OpeningError::CutOff)
 }

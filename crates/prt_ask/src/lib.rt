@@ -14,4 +14,4 @@ pub use following::{FollowEnd, follow};
 pub use mirror::Mirror;
 pub use notes::Notes;
 pub use question::{Comparison, Question, question_of};
-pub use refusal::NotAnswered;
+pub use refusal::AnswerError;

@@ -7,7 +7,7 @@ ghost use Rattle.prt_version.specs.Change.{apply, fold, refusal};
 
 use crate::answers::Answered;
 use crate::difference::{Difference, find_difference};
-use crate::refusal::NotAnswered;
+use crate::refusal::AnswerError;
 use prt_command::Command;
 use prt_diff::Fence;
 use prt_feed::Change;
@@ -30,12 +30,12 @@ pub struct Mirror {
 /// # Errors
 ///
 /// `Refused` with the refusal of the first one that is refused, or `NoMemory` in it.
-fn after_commands(version: &Version, commands: &[Command]) -> Result<Version, NotAnswered>
+fn after_commands(version: &Version, commands: &[Command]) -> Result<Version, AnswerError>
     ensures { IfOk result (λ after. after ≡ fold version.now commands.now) }
 {
     let (_, mut after) = match version.after_all(&[]) {
         Ok(made) => made,
-        Err(reason) => return Err(NotAnswered::Refused(reason)),
+        Err(reason) => return Err(AnswerError::Refused(reason)),
     };
     // One by one: there may be more of them than `after_all` has room for on the stack.
     for command in commands {
@@ -49,17 +49,17 @@ fn after_commands(version: &Version, commands: &[Command]) -> Result<Version, No
 /// # Errors
 ///
 /// `Refused` with its refusal, or `NoMemory` in it.
-fn after_command(version: &Version, command: &Command) -> Result<Version, NotAnswered>
+fn after_command(version: &Version, command: &Command) -> Result<Version, AnswerError>
     ensures value { IfOk result (λ after. after ≡ apply version.now command.now) }
     ensures allowed { OnOk result (refusal version.now command.now ≡ None) }
 {
     let change = match version.check(command) {
         Ok(change) => change,
-        Err(reason) => return Err(NotAnswered::Refused(reason)),
+        Err(reason) => return Err(AnswerError::Refused(reason)),
     };
     match version.next(&change) {
         Ok(after) => Ok(after),
-        Err(reason) => Err(NotAnswered::Refused(reason)),
+        Err(reason) => Err(AnswerError::Refused(reason)),
     }
 }
 
@@ -74,7 +74,7 @@ impl Mirror {
         fence: Fence,
         found: Version,
         wanted: Version,
-    ) -> Result<(Mirror, Answered), NotAnswered>
+    ) -> Result<(Mirror, Answered), AnswerError>
         ensures mirror { IfOk result (λ begun. begun.0 ≡ mirror_of fence found wanted) }
         ensures text { IfOk result (λ begun. begun.1.text.items ≡ changes_text fence found wanted) }
         ensures notes { IfOk result (λ begun. AreNotesOf fence found wanted begun.1.notes) }
@@ -97,7 +97,7 @@ impl Mirror {
     ///
     /// `Gap` if it isn't the next one; `Change` if no line can express a change; `Refused` if the change is refused or there is
     /// no room for one of the lines; `NoMemory`. Then nothing has changed.
-    pub fn follow(&mut self, alloc: Global, change: &Change) -> Result<Answered, NotAnswered>
+    pub fn follow(&mut self, alloc: Global, change: &Change) -> Result<Answered, AnswerError>
         ensures number { OnOk result (change.now.number ≡ self.old.wanted.count + 1) }
         ensures accepted { OnOk result (refusal self.old.wanted change.now.command ≡ None) }
         ensures mirror { OnOk result (self.new ≡ after_change self.old change.now.command) }
@@ -106,7 +106,7 @@ impl Mirror {
         ensures same { OnErr result (self.new ≡ self.old) }
     {
         if Some(change.number) != self.wanted.number().checked_add(1) {
-            return Err(NotAnswered::Gap);
+            return Err(AnswerError::Gap);
         }
         let wanted = after_command(&self.wanted, &change.command)?;
         let Difference { commands, answer } = find_difference(

@@ -3,10 +3,10 @@ ghost use Rattle.std.specs.Prelude.{◌≡◌};
 ghost use Rattle.prt_ask.specs.Questions.{question, question_by, question_in};
 ghost use Rattle.prt_command.specs.Reading.{reading};
 
+use prt_args::{Form, Verb};
 use prt_command::{Packet, Query, Refusal, Request, read_line};
 use prt_diff::Fence;
 use prt_version::Version;
-use prt_words::{Form, Verb};
 
 /// Tables that are to be brought to others.
 #[derive(Clone, Copy)]

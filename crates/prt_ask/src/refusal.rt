@@ -1,11 +1,11 @@
-use prt_diff::NotWritten;
-use prt_dump::NotDumped;
+use prt_diff::LineError;
+use prt_dump::DumpError;
 use prt_refusals::Refusal;
 use std::alloc::AllocError;
 
 /// Why tables don't answer a question.
 #[derive(Clone, Copy, Debug, PartialEq, Eq)]
-pub enum NotAnswered {
+pub enum AnswerError {
     /// No line can express the rule at this place of the listing, from 0 on.
     Rule(usize),
     /// No line can express the route at this place of the listing of all tables, from 0 on.
@@ -20,41 +20,41 @@ pub enum NotAnswered {
     NoMemory,
 }
 
-impl From<NotDumped> for NotAnswered {
+impl From<DumpError> for AnswerError {
     ghost use Rattle.std.specs.Prelude.{◌≡◌};
     ghost use Rattle.prt_ask.specs.Answers.{as_answer};
 
     ghost from_gives = { λ reason given. given ≡ as_answer reason };
 
-    fn from(reason: NotDumped) -> NotAnswered {
+    fn from(reason: DumpError) -> AnswerError {
         match reason {
-            NotDumped::Rule(place) => NotAnswered::Rule(place),
-            NotDumped::Route(place) => NotAnswered::Route(place),
-            NotDumped::NoMemory => NotAnswered::NoMemory,
+            DumpError::Rule(place) => AnswerError::Rule(place),
+            DumpError::Route(place) => AnswerError::Route(place),
+            DumpError::NoMemory => AnswerError::NoMemory,
         }
     }
 }
 
-impl From<NotWritten> for NotAnswered {
+impl From<LineError> for AnswerError {
     ghost use Rattle.prt_ask.specs.Answers.{IsOfChange};
 
     ghost from_gives = { λ _ given. IsOfChange given };
 
-    fn from(reason: NotWritten) -> NotAnswered {
+    fn from(reason: LineError) -> AnswerError {
         match reason {
-            NotWritten::NoLine(_) => NotAnswered::Change,
-            NotWritten::NoMemory => NotAnswered::NoMemory,
+            LineError::NoLine(_) => AnswerError::Change,
+            LineError::NoMemory => AnswerError::NoMemory,
         }
     }
 }
 
-impl From<AllocError> for NotAnswered {
+impl From<AllocError> for AnswerError {
     ghost use Rattle.std.specs.Prelude.{◌≡◌};
-    ghost use Rattle.prt_ask.specs.declared.refusal.NotAnswered.TheVariants.{NoMemory};
+    ghost use Rattle.prt_ask.specs.declared.refusal.AnswerError.TheVariants.{NoMemory};
 
     ghost from_gives = { λ _ given. given ≡ NoMemory };
 
-    fn from(_: AllocError) -> NotAnswered {
-        NotAnswered::NoMemory
+    fn from(_: AllocError) -> AnswerError {
+        AnswerError::NoMemory
     }
 }

@@ -1,10 +1,10 @@
 //! The machine that `prt` runs on.
 ghost use Rattle.std.specs.Prelude.{IfOk, OnErr, OnOk};
 ghost use Rattle.prt_daemon.specs.Openings.{IsThere, Opens, Refuses};
-ghost use Rattle.prt_questions.specs.declared.machine.Wanted.TheVariants.{Ours};
+ghost use Rattle.prt_questions.specs.declared.database_opener.Wanted.TheVariants.{Ours};
 
 use crate::calls::Calls;
-use prt_host::{Machine, Wanted};
+use prt_host::{DatabaseOpener, Wanted};
 use prt_rows::has_table;
 use sqlite::{Alter, Connection, Error, ErrorCode};
 use std::io;
@@ -52,7 +52,7 @@ fn open_ours<S: Alter, K: Calls<Connection<S>>>(
     }
 }
 
-impl<S: Alter, K: Calls<Connection<S>>> Machine<Connection<S>> for ThisMachine<K> {
+impl<S: Alter, K: Calls<Connection<S>>> DatabaseOpener<Connection<S>> for ThisMachine<K> {
     ghost use Rattle.prt_daemon.specs.Openings.{IsThere, Opens, Refuses};
 
     ghost opens = { λ wanted old new path conn. Opens K.has_size K.opens old.calls new.calls path wanted conn };

@@ -6,9 +6,9 @@ mod machine;
 
 use calls::HostCalls;
 use machine::ThisMachine;
-use prt_host::{DatabaseFiles, Machine, Measures, ServerNet, run};
-use prt_program::{Noting, ReadFiles};
-use prt_words::{report, words_fault};
+use prt_args::{report, words_fault};
+use prt_host::{DatabaseFiles, DatabaseOpener, Measures, ServerNet, run};
+use prt_program::{ErrorKeeping, ReadFiles};
 use sqlite::{Alter, Connection};
 use std::alloc::Global;
 use std::fs::Files;
@@ -23,7 +23,7 @@ use std::{env, io};
 /// `main` has none: so `main` isn't proved over all that `run` says of this machine.
 fn run_over<
     S: Alter + Drop + Send,
-    M: Machine<Connection<S>> + Drop,
+    M: DatabaseOpener<Connection<S>> + Drop,
     F: Files + ReadFiles + Measures + Clock + Drop + Sync,
     N: ServerNet + Threads + Wait + Clock + Copy + Drop + Send + Sync,
     R: Read + Drop,
@@ -41,8 +41,8 @@ where
     N::Stream: Send,
     N::Door: Sync,
 {
-    let mut input = Noting::new(input);
-    let mut output = Noting::new(output);
+    let mut input = ErrorKeeping::new(input);
+    let mut output = ErrorKeeping::new(output);
     run(databases, alloc, words, &mut input, &mut output, errors)
 }
 

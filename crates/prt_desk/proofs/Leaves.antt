@@ -6,7 +6,7 @@ use Rattle.prt_refusals.specs.declared.refusal.Refusal.{Refusal}
 use Rattle.prt_refusals.specs.declared.refusal.Refusal.TheVariants.{CountFull, Exists, Full, NoSuch, NotPublished, StoreFailed}
 use Rattle.prt_refusals.specs.declared.refusal.StoreCall.TheVariants.{Commit}
 use Rattle.prt_command.specs.declared.request.Command.{Command}
-use Rattle.prt_front.specs.Line.{grown_by, line_state}
+use Rattle.prt_published.specs.Line.{grown_by, line_state}
 use Rattle.prt_version.proofs.Refused.{IsOfState, all_refused_by}
 use Rattle.prt_publisher.proofs.Commits.{closed_stored}
 use Rattle.prt_publisher.specs.Exits.{AreNotAcknowledged, AreNotPrepared, AreNotPublished, AreNotStored}

@@ -6,7 +6,7 @@ use Rattle.prt_refusals.specs.declared.refusal.Refusal.{Refusal}
 use Rattle.prt_refusals.specs.declared.refusal.Refusal.TheVariants as reasons
 use Rattle.prt_refusals.specs.declared.refusal.StoreCall.TheVariants.{Commit}
 use Rattle.prt_command.specs.declared.request.Command.{Command}
-use Rattle.prt_front.specs.Line.{Line, grown_by, line_state}
+use Rattle.prt_published.specs.Line.{Line, grown_by, line_state}
 use Rattle.prt_publisher.specs.Exits.{AreNotAcknowledged, AreNotPrepared, AreNotPublished, AreNotStored, TakesAll}
 use Rattle.prt_publisher.specs.Standing.{IsQuiet, Standing}
 use Rattle.prt_publisher.specs.declared.phase.Phase.{Phase}

@@ -7,7 +7,7 @@ use Rattle.prt_refusals.specs.declared.refusal.Refusal.{Refusal}
 use Rattle.prt_refusals.specs.declared.refusal.Refusal.TheVariants.{NotPublished, StoreFailed}
 use Rattle.prt_refusals.specs.declared.refusal.StoreCall.TheVariants.{Commit}
 use Rattle.prt_command.specs.declared.request.Command.{Command}
-use Rattle.prt_front.specs.Line.{line_state}
+use Rattle.prt_published.specs.Line.{line_state}
 use Rattle.prt_publisher.specs.Standing.{IsQuiet, Standing, Stands}
 use Rattle.prt_publisher.specs.declared.phase.Phase.{Phase}
 use Rattle.prt_publisher.specs.declared.phase.Phase.TheVariants.{Ready, Closed}

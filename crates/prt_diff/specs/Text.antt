@@ -11,8 +11,8 @@ use Rattle.prt_spelling.specs.declared.form.ProtocolForm.TheVariants.{ByName, By
 use Rattle.prt_version.specs.State.{State}
 use Rattle.prt_diff.specs.Plan.{changes}
 use Rattle.prt_diff.specs.declared.fence.Fence.{Fence}
-use Rattle.prt_diff.specs.declared.refusal.NotWritten.{NotWritten}
-use Rattle.prt_diff.specs.declared.refusal.NotWritten.TheVariants.{NoLine, NoMemory}
+use Rattle.prt_diff.specs.declared.refusal.LineError.{LineError}
+use Rattle.prt_diff.specs.declared.refusal.LineError.TheVariants.{NoLine, NoMemory}
 
 -- a line for each command, with its newline
 abbrev pub text_by : ProtocolForm → List Command → List ℕ
@@ -34,6 +34,6 @@ abbrev pub IsAskedFor : ProtocolForm → Command → Type 0
 IsAskedFor form command = reading (line_by form command) ≡ Ok (Some (requests.Command command))
 
 -- the first command that no line can express
-abbrev pub IsWhyNotWritten : List Command → NotWritten → Type 0
+abbrev pub IsWhyNotWritten : List Command → LineError → Type 0
 IsWhyNotWritten commands (NoLine command) = find (λ other. not (is_spelled other)) commands ≡ Some command
 IsWhyNotWritten commands NoMemory = Unit {0}

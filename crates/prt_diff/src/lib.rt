@@ -22,7 +22,7 @@ pub use held::Held;
 pub use laws::{changes_bring, no_changes_where_same, no_gap_opens, nothing_is_passed_over};
 pub use outside::{Outside, count_outside};
 pub use plan::Changes;
-pub use refusal::NotWritten;
+pub use refusal::LineError;
 pub use replacing::{left_out_of_replacing, replacing_text};
 pub use text::{batch_text, changes_text, commands_text};
 pub use unreadable::Unreadable;

@@ -2,7 +2,7 @@ use prt_command::Command;
 
 /// Why changes are not written as lines.
 #[derive(Clone, Copy, PartialEq)]
-pub enum NotWritten {
+pub enum LineError {
     /// No line asks for this command.
     NoLine(Command),
     /// Memory was refused.

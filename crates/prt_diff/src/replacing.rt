@@ -12,7 +12,7 @@ use crate::diff::every_route;
 use crate::fence::is_kernels;
 use crate::held::Held;
 use crate::names::is_plain_name;
-use crate::refusal::NotWritten;
+use crate::refusal::LineError;
 use crate::text::batch_text;
 use crate::unreadable::{Unreadable, is_unreadable_route, is_unreadable_rule};
 use prt_command::Command;
@@ -154,13 +154,13 @@ fn replacing_commands(alloc: Global, version: &Version) -> Result<Vec<Command>, 
 ///
 /// `NoLine` with the first command that no line asks for: of a rule or a route that a table may not hold. `NoMemory` may
 /// come instead.
-pub fn replacing_text(alloc: Global, version: &Version) -> Result<Vec<u8>, NotWritten>
+pub fn replacing_text(alloc: Global, version: &Version) -> Result<Vec<u8>, LineError>
     ensures text { IfOk result (λ text. text.items ≡ replacing_text version.now) }
     ensures read { IfOk result (λ text. All (IsAskedFor ByNumber) (replacing_commands version.now)) }
     ensures reason { IfErr result (λ reason. IsWhyNotWritten (replacing_commands version.now) reason) }
 {
     let Ok(commands) = replacing_commands(alloc, version) else {
-        return Err(NotWritten::NoMemory);
+        return Err(LineError::NoMemory);
     };
     batch_text(alloc, &commands)
 }

@@ -8,10 +8,10 @@ ghost use Rattle.prt_diff.specs.Text.{IsAskedFor, IsWhyNotWritten, batch_text, c
 
 use crate::diff::changes;
 use crate::fence::Fence;
-use crate::refusal::NotWritten;
+use crate::refusal::LineError;
 use prt_command::Command;
 use prt_listing::push_text;
-use prt_spelling::{NotSpelled, ProtocolForm, line_by};
+use prt_spelling::{ProtocolForm, SpellingError, line_by};
 use prt_version::Version;
 use std::alloc::{AllocError, Global};
 
@@ -29,20 +29,20 @@ fn push_command(
     text: &mut Vec<u8>,
     form: ProtocolForm,
     command: &Command,
-) -> Result<(), NotSpelled>
+) -> Result<(), SpellingError>
     ensures text { OnOk result (text.new.items ≡ text.old.items ++ (line_by form command.now ++ codes "\n")) }
     ensures read { OnOk result (IsAskedFor form command.now) }
     ensures reason { IfErr result (λ reason. IsWhyNotSpelled command.now reason) }
 {
     let line = line_by(alloc, form, command)?;
     let Ok(()) = push_line(text, &line) else {
-        return Err(NotSpelled::NoMemory);
+        return Err(SpellingError::NoMemory);
     };
     Ok(())
 }
 
 /// Formats the commands as lines, with each protocol in this form.
-fn text_by(alloc: Global, form: ProtocolForm, commands: &[Command]) -> Result<Vec<u8>, NotWritten>
+fn text_by(alloc: Global, form: ProtocolForm, commands: &[Command]) -> Result<Vec<u8>, LineError>
     ensures text { IfOk result (λ text. text.items ≡ text_by form commands.now) }
     ensures read { IfOk result (λ text. All (IsAskedFor form) commands.now) }
     ensures reason { IfErr result (λ reason. IsWhyNotWritten commands.now reason) }
@@ -51,8 +51,8 @@ fn text_by(alloc: Global, form: ProtocolForm, commands: &[Command]) -> Result<Ve
     for command in commands {
         match push_command(alloc, &mut text, form, command) {
             Ok(()) => {}
-            Err(NotSpelled::NoLine) => return Err(NotWritten::NoLine(*command)),
-            Err(NotSpelled::NoMemory) => return Err(NotWritten::NoMemory),
+            Err(SpellingError::NoLine) => return Err(LineError::NoLine(*command)),
+            Err(SpellingError::NoMemory) => return Err(LineError::NoMemory),
         }
     }
     Ok(text)
@@ -64,7 +64,7 @@ fn text_by(alloc: Global, form: ProtocolForm, commands: &[Command]) -> Result<Ve
 ///
 /// `NoLine` with the first command that no line asks for: of a rule or a route with an interface whose name has `#`, a
 /// control byte or a byte above 0x7e, or that a table may not hold. `NoMemory` may come instead.
-pub fn commands_text(alloc: Global, commands: &[Command]) -> Result<Vec<u8>, NotWritten>
+pub fn commands_text(alloc: Global, commands: &[Command]) -> Result<Vec<u8>, LineError>
     ensures text { IfOk result (λ text. text.items ≡ commands_text commands.now) }
     ensures read { IfOk result (λ text. All (IsAskedFor ByName) commands.now) }
     ensures reason { IfErr result (λ reason. IsWhyNotWritten commands.now reason) }
@@ -78,7 +78,7 @@ pub fn commands_text(alloc: Global, commands: &[Command]) -> Result<Vec<u8>, Not
 /// # Errors
 ///
 /// Those of [`commands_text`].
-pub fn batch_text(alloc: Global, commands: &[Command]) -> Result<Vec<u8>, NotWritten>
+pub fn batch_text(alloc: Global, commands: &[Command]) -> Result<Vec<u8>, LineError>
     ensures text { IfOk result (λ text. text.items ≡ batch_text commands.now) }
     ensures read { IfOk result (λ text. All (IsAskedFor ByNumber) commands.now) }
     ensures reason { IfErr result (λ reason. IsWhyNotWritten commands.now reason) }
@@ -98,13 +98,13 @@ pub fn changes_text(
     fence: &Fence,
     found: &Version,
     wanted: &Version,
-) -> Result<Vec<u8>, NotWritten>
+) -> Result<Vec<u8>, LineError>
     ensures text { IfOk result (λ text. text.items ≡ changes_text fence.now found.now wanted.now) }
     ensures read { IfOk result (λ text. All (IsAskedFor ByNumber) (changes fence.now found.now wanted.now)) }
     ensures reason { IfErr result (λ reason. IsWhyNotWritten (changes fence.now found.now wanted.now) reason) }
 {
     let Ok(changes) = changes(alloc, fence, found, wanted) else {
-        return Err(NotWritten::NoMemory);
+        return Err(LineError::NoMemory);
     };
     batch_text(alloc, &changes.commands)
 }

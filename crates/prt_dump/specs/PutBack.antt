@@ -15,8 +15,8 @@ use Rattle.prt_version.specs.State.{State, opening_state}
 use Rattle.prt_spelling.specs.Fits.{CommandFits}
 use Rattle.prt_spelling.specs.Spelled.{is_spelled}
 use Rattle.prt_dump.specs.Dump.{add_route, add_rule, dump_lines}
-use Rattle.prt_dump.specs.declared.refusal.NotDumped.{NotDumped}
-use Rattle.prt_dump.specs.declared.refusal.NotDumped.TheVariants as refusals
+use Rattle.prt_dump.specs.declared.refusal.DumpError.{DumpError}
+use Rattle.prt_dump.specs.declared.refusal.DumpError.TheVariants as refusals
 
 -- ---- which states have a dump
 
@@ -37,7 +37,7 @@ abbrev pub first_unplain_route : State → Option ℕ
 first_unplain_route state = position (λ route. not (is_spelled (add_route route))) state.routes
 
 -- the first rule that no line can express, or, if a line can express each rule, the first such route
-abbrev pub IsWhyNot : State → NotDumped → Type 0
+abbrev pub IsWhyNot : State → DumpError → Type 0
 IsWhyNot state (refusals.Rule place) = first_unplain_rule state ≡ Some place
 IsWhyNot state (refusals.Route place) = (first_unplain_rule state ≡ None) × (first_unplain_route state ≡ Some place)
 IsWhyNot state refusals.NoMemory = Unit {0}

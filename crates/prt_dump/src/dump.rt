@@ -9,7 +9,7 @@ ghost use Rattle.prt_dump.specs.PutBack.{IsPlainState, IsPutBack, IsWhyNot, Stat
 use crate::commands::{add_route, add_rule, first_rule};
 use crate::fits::{recall_routes, recall_rules};
 use crate::plain::find_unplain;
-use crate::refusal::NotDumped;
+use crate::refusal::DumpError;
 use prt_command::Command;
 use prt_listing::push_text;
 use prt_route::{Range, Route, Selector};
@@ -103,7 +103,7 @@ pub fn every_route(version: &Version) -> Result<Vec<Route>, AllocError>
 /// `Rule` or `Route` if no line can express one: its interface has a name with `#`, a control byte or a byte above 0x7e,
 /// or a table may not hold it. It names the first rule or, if each rule can be expressed, the first route. `NoMemory`
 /// may come instead.
-pub fn dump_text(alloc: Global, version: &Version) -> Result<Vec<u8>, NotDumped>
+pub fn dump_text(alloc: Global, version: &Version) -> Result<Vec<u8>, DumpError>
     ensures text { IfOk result (λ text. text.items ≡ dump_text version.now) }
     ensures plain { IfOk result (λ text. IsPlainState version.now) }
     ensures fits { IfOk result (λ text. StateFits version.now) }
@@ -111,14 +111,14 @@ pub fn dump_text(alloc: Global, version: &Version) -> Result<Vec<u8>, NotDumped>
     ensures reason { IfErr result (λ reason. IsWhyNot version.now reason) }
 {
     let Ok(routes) = every_route(version) else {
-        return Err(NotDumped::NoMemory);
+        return Err(DumpError::NoMemory);
     };
     find_unplain(version.rules(), &routes)?;
     let _number = version.number();
     recall_rules(version.rules());
     recall_routes(&routes);
     let Ok(text) = text_of(alloc, version.rules(), &routes) else {
-        return Err(NotDumped::NoMemory);
+        return Err(DumpError::NoMemory);
     };
     Ok(text)
 }

@@ -10,4 +10,4 @@ mod refusal;
 
 pub use dump::{dump_text, every_route};
 pub use laws::{dump_is_put_back, dump_remakes};
-pub use refusal::NotDumped;
+pub use refusal::DumpError;

@@ -5,7 +5,7 @@ ghost use Rattle.prt_dump.specs.Dump.{add_route, add_rule};
 ghost use Rattle.prt_dump.specs.PutBack.{IsWhyNot};
 
 use crate::commands::{add_route, add_rule};
-use crate::refusal::NotDumped;
+use crate::refusal::DumpError;
 use prt_route::Route;
 use prt_rule::Rule;
 use prt_spelling::is_spelled;
@@ -43,14 +43,14 @@ fn first_unplain_route(routes: &[Route]) -> Option<usize>
 /// # Errors
 ///
 /// `Rule` or `Route` with the place of the first one.
-pub(crate) fn find_unplain(rules: &[Rule], routes: &[Route]) -> Result<(), NotDumped>
+pub(crate) fn find_unplain(rules: &[Rule], routes: &[Route]) -> Result<(), DumpError>
     ensures plain { OnOk result ((position (λ rule. not (is_spelled (add_rule rule))) rules.now ≡ None) × (position (λ route. not (is_spelled (add_route route))) routes.now ≡ None)) }
     ensures reason { IfErr result (λ reason. IsWhyNot (record { count = 0; rules = rules.now; routes = routes.now }) reason) }
 {
     match first_unplain_rule(rules) {
-        Some(place) => Err(NotDumped::Rule(place)),
+        Some(place) => Err(DumpError::Rule(place)),
         None => match first_unplain_route(routes) {
-            Some(place) => Err(NotDumped::Route(place)),
+            Some(place) => Err(DumpError::Route(place)),
             None => Ok(()),
         },
     }

@@ -12,7 +12,7 @@ use crate::words::{are_lines_read, are_read};
 use prt_command::{Command, Refusal};
 use prt_grace::Domain;
 use prt_publisher::{Phase, Publisher, Receipt, Seats};
-use prt_service::{Looker, Naming, Service};
+use prt_service::{Looker, Service, ServiceBrand};
 use prt_session::Reply;
 use prt_store::{Stamp, Store};
 use prt_version::Version;
@@ -79,7 +79,7 @@ fn committed<S: Alter + Drop>(
 }
 
 /// Checks whether a looker that learns a receipt sees its command, holds the version, and goes.
-fn sees_command<S: Alter + Drop, J: Naming, H: Wait>(
+fn sees_command<S: Alter + Drop, J: ServiceBrand, H: Wait>(
     rt: &H,
     service: &Service<S, J>,
     mut looker: Looker,
@@ -99,7 +99,7 @@ fn sees_command<S: Alter + Drop, J: Naming, H: Wait>(
 }
 
 /// Checks whether a service is made of a publisher and its readers, provides a looker, and returns the connection.
-fn is_served<J: Naming, S: Alter + Drop, H: Wait>(
+fn is_served<J: ServiceBrand, S: Alter + Drop, H: Wait>(
     rt: &H,
     publisher: Publisher<S>,
     seats: Seats,
@@ -160,7 +160,7 @@ fn are_ended<S: Alter + Drop>(ended: Ended<S>) -> bool {
 }
 
 /// Has a command accepted by a service, sets the mark, and checks whether its receipt is learned after it.
-fn serve<J: Naming, S: Alter + Drop, H: Wait + Clock + Copy + Drop, W: Write>(
+fn serve<J: ServiceBrand, S: Alter + Drop, H: Wait + Clock + Copy + Drop, W: Write>(
     rt: H,
     publisher: Publisher<S>,
     domain: Domain,

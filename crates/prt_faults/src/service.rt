@@ -8,7 +8,7 @@ ghost use Rattle.prt_service.specs.Named.{IsNamed};
 use prt_command::{Addr, Command, Dev, Packet, Refusal, Request, read_line};
 use prt_grace::Domain;
 use prt_publisher::{Phase, Publisher, Receipt};
-use prt_service::{Looker, Naming, Service};
+use prt_service::{Looker, Service, ServiceBrand};
 use sqlite::{Alter, Connection};
 use std::alloc::Global;
 use std::sync::Wait;
@@ -32,7 +32,7 @@ pub(crate) fn adopted<S: Alter + Drop>(
 /// # Errors
 ///
 /// `NoMemory`. The publisher is gone then.
-pub(crate) fn service_over<J: Naming, S: Alter + Drop, H: Wait>(
+pub(crate) fn service_over<J: ServiceBrand, S: Alter + Drop, H: Wait>(
     rt: &H,
     mut publisher: Publisher<S>,
     domain: Domain,
@@ -59,7 +59,7 @@ pub(crate) fn command_of(line: &str) -> Result<Command, Refusal>
 }
 
 /// Submits a command, and once more if memory was refused.
-pub(crate) fn submit<S: Alter + Drop, J: Naming, H: Wait + Clock>(
+pub(crate) fn submit<S: Alter + Drop, J: ServiceBrand, H: Wait + Clock>(
     rt: &H,
     service: &Service<S, J>,
     command: &Command,
@@ -74,7 +74,7 @@ pub(crate) fn submit<S: Alter + Drop, J: Naming, H: Wait + Clock>(
 }
 
 /// Refreshes a looker, and once more if nothing was fetched, and returns the number of the version that it looks with.
-pub(crate) fn look<S: Alter + Drop, J: Naming, H: Wait>(
+pub(crate) fn look<S: Alter + Drop, J: ServiceBrand, H: Wait>(
     rt: &H,
     service: &Service<S, J>,
     looker: &mut Looker,

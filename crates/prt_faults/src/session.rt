@@ -7,7 +7,7 @@ use prt_command::Refusal;
 use prt_grace::Domain;
 use prt_publisher::Publisher;
 use prt_serve::{OpenGate, serve_session};
-use prt_service::{Naming, Service};
+use prt_service::{Service, ServiceBrand};
 use sqlite::{Alter, Connection};
 use std::alloc::Global;
 use std::io::{Read, Write};
@@ -17,7 +17,7 @@ use std::sync::Wait;
 use std::time::Clock;
 
 /// Serves one session of a service of the named front.
-fn serve<J: Naming, S: Alter + Drop, H: Wait + Clock + Copy + Drop, R: Read, W: Write>(
+fn serve<J: ServiceBrand, S: Alter + Drop, H: Wait + Clock + Copy + Drop, R: Read, W: Write>(
     rt: H,
     alloc: Global,
     publisher: Publisher<S>,

@@ -11,7 +11,7 @@ use crate::service::{adopted, command_of, look, packet, service_over, submit};
 use prt_command::Refusal;
 use prt_grace::Domain;
 use prt_publisher::Publisher;
-use prt_service::{Looker, Naming, Service};
+use prt_service::{Looker, Service, ServiceBrand};
 use prt_session::Reply;
 use sqlite::{Alter, Connection};
 use std::alloc::Global;
@@ -41,7 +41,7 @@ impl<H: Wait + Clock + Copy + Drop> Clock for Hasty<H> {
 }
 
 /// Submits the command after so many: a route is added and removed in turn. Returns the number of its receipt.
-fn submit_next<S: Alter + Drop, J: Naming, H: Wait + Clock>(
+fn submit_next<S: Alter + Drop, J: ServiceBrand, H: Wait + Clock>(
     rt: &H,
     service: &Service<S, J>,
     accepted: u64,
@@ -64,7 +64,7 @@ fn submit_next<S: Alter + Drop, J: Naming, H: Wait + Clock>(
 /// # Errors
 ///
 /// Why a command was refused, other than `Busy`.
-fn submit_until<S: Alter + Drop, J: Naming, H: Wait + Clock, W: Write>(
+fn submit_until<S: Alter + Drop, J: ServiceBrand, H: Wait + Clock, W: Write>(
     rt: &H,
     service: &Service<S, J>,
     accepted: u64,
@@ -98,7 +98,7 @@ fn submit_until<S: Alter + Drop, J: Naming, H: Wait + Clock, W: Write>(
 
 /// Submits commands beside a looker that refreshes at first, and then when a command was refused; rests it, and submits
 /// further ones.
-fn submit_beside<S: Alter + Drop, J: Naming, H: Wait + Clock, W: Write>(
+fn submit_beside<S: Alter + Drop, J: ServiceBrand, H: Wait + Clock, W: Write>(
     rt: &H,
     service: &Service<S, J>,
     looker: &mut Looker,
@@ -119,7 +119,11 @@ fn submit_beside<S: Alter + Drop, J: Naming, H: Wait + Clock, W: Write>(
 }
 
 /// Makes lookers until one is refused, or so many are there. Then all of them leave. Returns how many there were.
-fn gather<S: Alter + Drop, J: Naming, H: Wait>(rt: &H, service: &Service<S, J>, most: u64) -> u64 {
+fn gather<S: Alter + Drop, J: ServiceBrand, H: Wait>(
+    rt: &H,
+    service: &Service<S, J>,
+    most: u64,
+) -> u64 {
     if most == 0 {
         return 0;
     }
@@ -134,7 +138,7 @@ fn gather<S: Alter + Drop, J: Naming, H: Wait>(rt: &H, service: &Service<S, J>, 
 }
 
 /// Goes on if the publisher was closed: a further command is refused, and the looker has the published version.
-fn go_on_closed<S: Alter + Drop, J: Naming, H: Wait + Clock, W: Write>(
+fn go_on_closed<S: Alter + Drop, J: ServiceBrand, H: Wait + Clock, W: Write>(
     rt: &H,
     service: &Service<S, J>,
     looker: &mut Looker,
@@ -147,7 +151,7 @@ fn go_on_closed<S: Alter + Drop, J: Naming, H: Wait + Clock, W: Write>(
 }
 
 /// Runs a service of the named front.
-fn serve<J: Naming, S: Alter + Drop, H: Wait + Clock + Copy + Drop, W: Write>(
+fn serve<J: ServiceBrand, S: Alter + Drop, H: Wait + Clock + Copy + Drop, W: Write>(
     rt: H,
     publisher: Publisher<S>,
     domain: Domain,

@@ -21,8 +21,8 @@ use Rattle.prt_spelling.specs.Line.{command_line}
 use Rattle.prt_feed.specs.Feed.{opening_text}
 use Rattle.prt_feed.specs.Following.{LeadTo, now_line, state_line}
 use Rattle.prt_feed.specs.Reading.{AreTables, AreTaken, IsOpening, IsReadBack, IsTaken, IsWhyNotRead, IsWhyRefused}
-use Rattle.prt_feed.specs.declared.opening.NotRead.{NotRead}
-use Rattle.prt_feed.specs.declared.opening.NotRead.TheVariants as reasons
+use Rattle.prt_feed.specs.declared.opening.OpeningError.{OpeningError}
+use Rattle.prt_feed.specs.declared.opening.OpeningError.TheVariants as reasons
 use Rattle.prt_feed.specs.declared.opening.Opening.{Opening}
 use Rattle.prt_feed.proofs.Lines.{opening_leads}
 use Rattle.prt_feed.proofs.Taking.{short_state_line}
@@ -238,7 +238,7 @@ refused_by state more number (Some left) reader reason sent first why =
     let parts = after_first state more left number [] sent first.whole.0 first.read in
     not_refused state more reader reason sent (subst (λ t. IsWhyRefused (Some t) reader reason) (sym parts.rest) why)
 
-pub fails_only : (state : State) (more : List ℕ) (reader : Option (List ℕ)) (reason : NotRead) → IsSound state → StateFits state → IsPlainState state → IsWhyNotRead (Some (opening_text state ++ more)) reader reason → (reason ≡ reasons.CutOff) ⊎ (reason ≡ reasons.NoMemory)
+pub fails_only : (state : State) (more : List ℕ) (reader : Option (List ℕ)) (reason : OpeningError) → IsSound state → StateFits state → IsPlainState state → IsWhyNotRead (Some (opening_text state ++ more)) reader reason → (reason ≡ reasons.CutOff) ⊎ (reason ≡ reasons.NoMemory)
 fails_only state more reader reasons.CutOff sound fits plain why = inl refl
 fails_only state more reader reasons.NoFeed sound fits plain why =
     let sent : AreSent state = are_sent state sound fits plain in

@@ -23,8 +23,8 @@ use Rattle.prt_lines.specs.Lines.{line_refusal, line_state, read_refusal}
 use Rattle.prt_feed.specs.Following.{now_line, state_line}
 use Rattle.prt_feed.specs.Reading.{AreTables, AreTaken, IsNoState, IsOpening, IsTaken, IsWhyNotRead}
 use Rattle.prt_feed.specs.Steps.{AreTablesRead, IsWhyNoNumber, IsWhyNoTables, IsWhyNotExecuted}
-use Rattle.prt_feed.specs.declared.opening.NotRead.{NotRead}
-use Rattle.prt_feed.specs.declared.opening.NotRead.TheVariants as reasons
+use Rattle.prt_feed.specs.declared.opening.OpeningError.{OpeningError}
+use Rattle.prt_feed.specs.declared.opening.OpeningError.TheVariants as reasons
 use Rattle.prt_feed.specs.declared.opening.Opening.{Opening}
 use Rattle.prt_feed.proofs.Lines.{accepted_both, state_both}
 use Rattle.prt_feed.proofs.Texts.{Bare, bare_both, is_not, whole-append}
@@ -178,7 +178,7 @@ now_read reader0 reader1 reader2 tables line count so_far taken is = record {
 }
 
 -- a line that is refused
-pub line_not_executed : (reader0 reader1 reader2 : Option (List ℕ)) (tables : State) (line : List ℕ) (count : ℕ) (reason : NotRead) → TablesSoFar reader0 reader1 tables count → IsTaken reader1 reader2 line → line ≢ now_line → IsWhyNotExecuted tables line reason → IsWhyNoTables reader0 reader2 reason
+pub line_not_executed : (reader0 reader1 reader2 : Option (List ℕ)) (tables : State) (line : List ℕ) (count : ℕ) (reason : OpeningError) → TablesSoFar reader0 reader1 tables count → IsTaken reader1 reader2 line → line ≢ now_line → IsWhyNotExecuted tables line reason → IsWhyNoTables reader0 reader2 reason
 line_not_executed reader0 reader1 reader2 tables line count reasons.CutOff so_far taken other why = tt
 line_not_executed reader0 reader1 reader2 tables line count reasons.NoFeed so_far taken other why = why
 line_not_executed reader0 reader1 reader2 tables line count (reasons.Refused reason) so_far taken other why = inl (record {
@@ -207,13 +207,13 @@ opening_read reader0 between reader opening number tables number_is version_is f
   taken = subst (λ n. AreTaken reader0 reader (state_line n ∷ (rest.lines ++ (now_line ∷ [])))) (sym number_is) (taken_both reader0 between reader (state_line number ∷ []) (rest.lines ++ (now_line ∷ [])) first rest.taken);
 }
 
-pub no_number_read : (reader0 reader : Option (List ℕ)) (reason : NotRead) → IsWhyNoNumber reader0 reader reason → IsWhyNotRead reader0 reader reason
+pub no_number_read : (reader0 reader : Option (List ℕ)) (reason : OpeningError) → IsWhyNoNumber reader0 reader reason → IsWhyNotRead reader0 reader reason
 no_number_read reader0 reader reasons.CutOff why = tt
 no_number_read reader0 reader reasons.NoFeed why = why
 no_number_read reader0 reader (reasons.Refused reason) why = absurd why
 no_number_read reader0 reader reasons.NoMemory why = tt
 
-pub no_tables_read : (reader0 between reader : Option (List ℕ)) (number : ℕ) (reason : NotRead) → AreTaken reader0 between (state_line number ∷ []) → IsWhyNoTables between reader reason → IsWhyNotRead reader0 reader reason
+pub no_tables_read : (reader0 between reader : Option (List ℕ)) (number : ℕ) (reason : OpeningError) → AreTaken reader0 between (state_line number ∷ []) → IsWhyNoTables between reader reason → IsWhyNotRead reader0 reader reason
 no_tables_read reader0 between reader number reasons.CutOff first why = tt
 no_tables_read reader0 between reader number reasons.NoFeed first why = absurd why
 no_tables_read reader0 between reader number (reasons.Refused reason) first why = (number, between, first, why)

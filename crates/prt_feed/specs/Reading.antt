@@ -9,8 +9,8 @@ use Rattle.prt_lines.specs.Chunk.{AreAccepted, has_newline, lines_state, whole_l
 use Rattle.prt_lines.specs.Lines.{line_refusal}
 use Rattle.prt_version.specs.State.{State, opening_state}
 use Rattle.prt_feed.specs.Following.{now_line, state_line}
-use Rattle.prt_feed.specs.declared.opening.NotRead.{NotRead}
-use Rattle.prt_feed.specs.declared.opening.NotRead.TheVariants as reasons
+use Rattle.prt_feed.specs.declared.opening.OpeningError.{OpeningError}
+use Rattle.prt_feed.specs.declared.opening.OpeningError.TheVariants as reasons
 use Rattle.prt_feed.specs.declared.opening.Opening.{Opening}
 
 -- ---- lines
@@ -71,7 +71,7 @@ pub record IsOpening (reader0 reader : Option (List ℕ)) (opening : Opening) : 
   pub taken : AreTaken reader0 reader (state_line opening.number ∷ (lines ++ (now_line ∷ [])))
 
 -- why no opening was read
-abbrev pub IsWhyNotRead : Option (List ℕ) → Option (List ℕ) → NotRead → Type 0
+abbrev pub IsWhyNotRead : Option (List ℕ) → Option (List ℕ) → OpeningError → Type 0
 IsWhyNotRead reader0 reader reasons.CutOff = Unit {0}
 IsWhyNotRead reader0 reader reasons.NoFeed = (line : List ℕ) × IsTaken reader0 reader line × IsNoState line
 IsWhyNotRead reader0 reader (reasons.Refused reason) = (number : ℕ) × (between : Option (List ℕ)) × AreTaken reader0 between (state_line number ∷ []) × IsWhyRefused between reader reason

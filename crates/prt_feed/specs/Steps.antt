@@ -4,18 +4,18 @@ use Rattle.prt_lines.specs.Lines.{line_refusal}
 use Rattle.prt_version.specs.State.{State}
 use Rattle.prt_feed.specs.Following.{now_line}
 use Rattle.prt_feed.specs.Reading.{AreTables, AreTaken, IsNoState, IsTaken, IsWhyRefused}
-use Rattle.prt_feed.specs.declared.opening.NotRead.{NotRead}
-use Rattle.prt_feed.specs.declared.opening.NotRead.TheVariants as reasons
+use Rattle.prt_feed.specs.declared.opening.OpeningError.{OpeningError}
+use Rattle.prt_feed.specs.declared.opening.OpeningError.TheVariants as reasons
 
 -- why a line was not executed
-abbrev pub IsWhyNotExecuted : State → List ℕ → NotRead → Type 0
+abbrev pub IsWhyNotExecuted : State → List ℕ → OpeningError → Type 0
 IsWhyNotExecuted tables line reasons.CutOff = ⊥
 IsWhyNotExecuted tables line reasons.NoFeed = ⊥
 IsWhyNotExecuted tables line (reasons.Refused reason) = line_refusal tables line ≡ Some reason
 IsWhyNotExecuted tables line reasons.NoMemory = Unit {0}
 
 -- why the first line gave no number
-abbrev pub IsWhyNoNumber : Option (List ℕ) → Option (List ℕ) → NotRead → Type 0
+abbrev pub IsWhyNoNumber : Option (List ℕ) → Option (List ℕ) → OpeningError → Type 0
 IsWhyNoNumber reader0 reader reasons.CutOff = Unit {0}
 IsWhyNoNumber reader0 reader reasons.NoFeed = (line : List ℕ) × IsTaken reader0 reader line × IsNoState line
 IsWhyNoNumber reader0 reader (reasons.Refused reason) = ⊥
@@ -28,7 +28,7 @@ pub record AreTablesRead (reader0 reader : Option (List ℕ)) (tables : State) :
   pub taken : AreTaken reader0 reader (lines ++ (now_line ∷ []))
 
 -- why they were not
-abbrev pub IsWhyNoTables : Option (List ℕ) → Option (List ℕ) → NotRead → Type 0
+abbrev pub IsWhyNoTables : Option (List ℕ) → Option (List ℕ) → OpeningError → Type 0
 IsWhyNoTables reader0 reader reasons.CutOff = Unit {0}
 IsWhyNoTables reader0 reader reasons.NoFeed = ⊥
 IsWhyNoTables reader0 reader (reasons.Refused reason) = IsWhyRefused reader0 reader reason

@@ -2,7 +2,7 @@
 ghost use Rattle.std.specs.Prelude.{◌≡◌, ◌==◌, IfOk, IfSome, position};
 ghost use Rattle.prt_feed.specs.Changes.{IsChangeLine, IsCutAt, IsLineOf, IsTold};
 
-use crate::opening::NotRead;
+use crate::opening::OpeningError;
 use crate::reading::{ROOM, next_line, number_of};
 use arrayvec::ArrayVec;
 use prt_command::{Command, LONGEST_LINE, Request, read_line};
@@ -40,19 +40,19 @@ fn at_space(line: &[u8]) -> Option<(&[u8], &[u8])>
 /// # Errors
 ///
 /// `NoFeed` if it is not a number, a space and a command; `Refused` with the first fault of the command.
-fn change_of(line: &[u8]) -> Result<Change, NotRead>
+fn change_of(line: &[u8]) -> Result<Change, OpeningError>
     ensures { IfOk result (λ change. IsChangeLine line.now change) }
 {
     let Some((digits, rest)) = at_space(line) else {
-        return Err(NotRead::NoFeed);
+        return Err(OpeningError::NoFeed);
     };
     let Some(number) = number_of(digits) else {
-        return Err(NotRead::NoFeed);
+        return Err(OpeningError::NoFeed);
     };
     match read_line(rest) {
         Ok(Some(Request::Command(command))) => Ok(Change { number, command }),
-        Ok(_) => Err(NotRead::NoFeed),
-        Err(reason) => Err(NotRead::Refused(reason)),
+        Ok(_) => Err(OpeningError::NoFeed),
+        Err(reason) => Err(OpeningError::Refused(reason)),
     }
 }
 
@@ -61,7 +61,7 @@ fn change_of(line: &[u8]) -> Result<Change, NotRead>
 /// # Errors
 ///
 /// As of `change_of`.
-fn told_by(line: &[u8]) -> Result<Option<Change>, NotRead>
+fn told_by(line: &[u8]) -> Result<Option<Change>, OpeningError>
     ensures { IfOk result (λ told. IsLineOf told line.now) }
 {
     match line.split_first() {
@@ -80,16 +80,16 @@ fn told_by(line: &[u8]) -> Result<Option<Change>, NotRead>
 ///
 /// `CutOff` if the reader fails or ends before the line does; `NoFeed` if the line is no change; `Refused` with the
 /// first fault of its command, or `LineTooLong`.
-pub fn read_change<R: Read>(reader: &mut R) -> Result<Option<Change>, NotRead>
+pub fn read_change<R: Read>(reader: &mut R) -> Result<Option<Change>, OpeningError>
     ensures { IfOk result (IsTold (R.remaining reader.old) (R.remaining reader.new)) }
 {
     let mut line = ArrayVec::<u8, ROOM>::new();
     if !next_line(reader, &mut line) {
-        return Err(NotRead::CutOff);
+        return Err(OpeningError::CutOff);
     }
     let text = line.as_slice();
     if text.len() > LONGEST_LINE {
-        return Err(NotRead::Refused(Refusal::LineTooLong));
+        return Err(OpeningError::Refused(Refusal::LineTooLong));
     }
     told_by(text)
 }

@@ -7,8 +7,8 @@ ghost use Rattle.prt_dump.specs.PutBack.{IsPlainState, IsSameButForIds, StateFit
 ghost use Rattle.prt_feed.specs.Feed.{opening_text};
 ghost use Rattle.prt_feed.specs.Following.{AreLinesOf, HasLine, IsFollowed, LeadTo};
 ghost use Rattle.prt_feed.specs.Reading.{IsOpening, IsReadBack, IsWhyNotRead};
-ghost use Rattle.prt_feed.specs.declared.opening.NotRead.{NotRead};
-ghost use Rattle.prt_feed.specs.declared.opening.NotRead.TheVariants.{CutOff, NoMemory};
+ghost use Rattle.prt_feed.specs.declared.opening.OpeningError.{OpeningError};
+ghost use Rattle.prt_feed.specs.declared.opening.OpeningError.TheVariants.{CutOff, NoMemory};
 ghost use Rattle.prt_feed.specs.declared.opening.Opening.{Opening};
 ghost use Rattle.prt_spelling.specs.Line.{command_line};
 ghost use Rattle.prt_version.specs.Accepted.{IsAccepted};
@@ -49,6 +49,6 @@ pub fn text_has_one_reading()
 pub fn sent_opening_is_read()
     ensures opening { (state : State) (more : List ℕ) (reader : Option (List ℕ)) (opening : Opening) → IsSound state → StateFits state → IsPlainState state →
         opening.number < 2 ^ 64 → IsOpening (Some (opening_text state ++ more)) reader opening → IsReadBack state more reader opening }
-    ensures reason { (state : State) (more : List ℕ) (reader : Option (List ℕ)) (reason : NotRead) → IsSound state → StateFits state → IsPlainState state →
+    ensures reason { (state : State) (more : List ℕ) (reader : Option (List ℕ)) (reason : OpeningError) → IsSound state → StateFits state → IsPlainState state →
         IsWhyNotRead (Some (opening_text state ++ more)) reader reason → (reason ≡ CutOff) ⊎ (reason ≡ NoMemory) }
 {}

@@ -12,6 +12,6 @@ pub use laws::{
     changes_are_followed, feed_is_followed, opening_is_read, sent_opening_is_read,
     text_has_one_reading,
 };
-pub use opening::{NotRead, Opening};
+pub use opening::{Opening, OpeningError};
 pub use reading::{number_of, read_opening};
 pub use text::{change_line, opening_text};

@@ -22,7 +22,7 @@ pub struct Opening {
 
 /// Why no opening was read.
 #[derive(Clone, Copy, Debug, Error, PartialEq, Eq)]
-pub enum NotRead {
+pub enum OpeningError {
     /// The stream failed, or ended before `now`.
     #[error("the tables were cut off")]
     CutOff,

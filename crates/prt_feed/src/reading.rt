@@ -6,7 +6,7 @@ ghost use Rattle.prt_feed.specs.Following.{now_line, state_line};
 ghost use Rattle.prt_feed.specs.Reading.{AreTaken, IsNoState, IsOpening, IsTaken, IsWhyNotRead};
 ghost use Rattle.prt_feed.specs.Steps.{AreTablesRead, IsWhyNoNumber, IsWhyNoTables, IsWhyNotExecuted};
 
-use crate::opening::{NotRead, Opening};
+use crate::opening::{Opening, OpeningError};
 use arrayvec::ArrayVec;
 use itoa::Buffer;
 use prt_command::{LONGEST_LINE, MOST_LINES};
@@ -90,7 +90,7 @@ fn is_now(line: &[u8]) -> bool
 }
 
 /// Executes a line over tables.
-fn after_line(tables: Version, line: &[u8]) -> Result<Version, NotRead>
+fn after_line(tables: Version, line: &[u8]) -> Result<Version, OpeningError>
     ensures value { IfOk result (λ next. next ≡ line_state tables line.now) }
     ensures allowed { OnOk result (line_refusal tables line.now ≡ None) }
     ensures reason { IfErr result (λ reason. IsWhyNotExecuted tables line.now reason) }
@@ -98,23 +98,23 @@ fn after_line(tables: Version, line: &[u8]) -> Result<Version, NotRead>
     match next_version(&tables, line) {
         Ok(Some(next)) => Ok(next),
         Ok(None) => Ok(tables),
-        Err(Refusal::NoMemory) => Err(NotRead::NoMemory),
-        Err(reason) => Err(NotRead::Refused(reason)),
+        Err(Refusal::NoMemory) => Err(OpeningError::NoMemory),
+        Err(reason) => Err(OpeningError::Refused(reason)),
     }
 }
 
 /// Reads lines up to `now`, and executes them over a new database.
-fn read_tables<R: Read>(alloc: Global, reader: &mut R) -> Result<Version, NotRead>
+fn read_tables<R: Read>(alloc: Global, reader: &mut R) -> Result<Version, OpeningError>
     ensures tables { IfOk result (λ tables. AreTablesRead (R.remaining reader.old) (R.remaining reader.new) tables) }
     ensures reason { IfErr result (λ reason. IsWhyNoTables (R.remaining reader.old) (R.remaining reader.new) reason) }
 {
     let Ok(mut tables) = Version::opening(alloc) else {
-        return Err(NotRead::NoMemory);
+        return Err(OpeningError::NoMemory);
     };
     let mut line = ArrayVec::<u8, ROOM>::new();
     for _count in 0..MOST_LINES {
         if !next_line(reader, &mut line) {
-            return Err(NotRead::CutOff);
+            return Err(OpeningError::CutOff);
         }
         let text = line.as_slice();
         if is_now(text) {
@@ -122,21 +122,21 @@ fn read_tables<R: Read>(alloc: Global, reader: &mut R) -> Result<Version, NotRea
         }
         tables = after_line(tables, text)?;
     }
-    Err(NotRead::Refused(Refusal::TooManyLines))
+    Err(OpeningError::Refused(Refusal::TooManyLines))
 }
 
 /// Reads the first line of a feed.
-fn read_number<R: Read>(reader: &mut R) -> Result<u64, NotRead>
+fn read_number<R: Read>(reader: &mut R) -> Result<u64, OpeningError>
     ensures number { IfOk result (λ number. AreTaken (R.remaining reader.old) (R.remaining reader.new) (state_line number ∷ [])) }
     ensures reason { IfErr result (λ reason. IsWhyNoNumber (R.remaining reader.old) (R.remaining reader.new) reason) }
 {
     let mut line = ArrayVec::<u8, ROOM>::new();
     if !next_line(reader, &mut line) {
-        return Err(NotRead::CutOff);
+        return Err(OpeningError::CutOff);
     }
     match state_number(line.as_slice()) {
         Some(number) => Ok(number),
-        None => Err(NotRead::NoFeed),
+        None => Err(OpeningError::NoFeed),
     }
 }
 
@@ -147,7 +147,7 @@ fn read_number<R: Read>(reader: &mut R) -> Result<u64, NotRead>
 ///
 /// `CutOff` if the reader fails or ends before `now`; `NoFeed` if the first line is not `state` and a number;
 /// `Refused` with the refusal of a line, or `TooManyLines` after 1,000,000 lines without a `now`; `NoMemory`.
-pub fn read_opening<R: Read>(alloc: Global, reader: &mut R) -> Result<Opening, NotRead>
+pub fn read_opening<R: Read>(alloc: Global, reader: &mut R) -> Result<Opening, OpeningError>
     ensures opening { IfOk result (λ opening. IsOpening (R.remaining reader.old) (R.remaining reader.new) opening) }
     ensures reason { IfErr result (λ reason. IsWhyNotRead (R.remaining reader.old) (R.remaining reader.new) reason) }
 {

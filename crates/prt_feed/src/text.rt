@@ -7,7 +7,7 @@ ghost use Rattle.prt_spelling.specs.Fits.{CommandFits};
 
 use itoa::Buffer;
 use prt_command::Command;
-use prt_dump::{NotDumped, dump_text};
+use prt_dump::{DumpError, dump_text};
 use prt_spelling::{is_spelled, push_line};
 use prt_version::Version;
 use std::alloc::{AllocError, Global};
@@ -38,7 +38,7 @@ fn with_ends(alloc: Global, number: u64, dump: &[u8]) -> Result<Vec<u8>, AllocEr
 /// # Errors
 ///
 /// Those of [`dump_text`]: `Rule` or `Route` if no line can express one, `NoMemory` if memory is refused.
-pub fn opening_text(alloc: Global, version: &Version) -> Result<Vec<u8>, NotDumped>
+pub fn opening_text(alloc: Global, version: &Version) -> Result<Vec<u8>, DumpError>
     ensures text { IfOk result (λ text. text.items ≡ opening_text version.now) }
     ensures plain { IfOk result (λ text. IsPlainState version.now) }
     ensures fits { IfOk result (λ text. StateFits version.now) }
@@ -46,7 +46,7 @@ pub fn opening_text(alloc: Global, version: &Version) -> Result<Vec<u8>, NotDump
 {
     let dump = dump_text(alloc, version)?;
     let Ok(text) = with_ends(alloc, version.number(), &dump) else {
-        return Err(NotDumped::NoMemory);
+        return Err(DumpError::NoMemory);
     };
     Ok(text)
 }

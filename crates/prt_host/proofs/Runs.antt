@@ -15,21 +15,21 @@ use Rattle.prt_store.proofs.Exits.{found_is}
 use Rattle.prt_store.proofs.Spelled.{stored_there}
 use Rattle.prt_store.specs.Exits.{IsKnown, Spells}
 use Rattle.prt_version.specs.State.{State}
-use Rattle.prt_words.specs.Invocation.{Invocation, Submission}
-use Rattle.prt_words.specs.Places.{IsPlace}
-use Rattle.prt_words.specs.Read.{IsServiceIn}
-use Rattle.prt_words.specs.Tasks.{IsServing}
-use Rattle.prt_words.specs.declared.fault.Fault.{Fault}
-use Rattle.prt_words.specs.declared.fault.TheConstants.{DONE, FAULT}
-use Rattle.prt_words.specs.declared.server_place.ServerPlace.{ServerPlace}
-use Rattle.prt_words.specs.declared.serving.Serving.{Serving}
+use Rattle.prt_args.specs.Invocation.{Invocation, Submission}
+use Rattle.prt_args.specs.Places.{IsPlace}
+use Rattle.prt_args.specs.Read.{IsServiceIn}
+use Rattle.prt_args.specs.Tasks.{IsServing}
+use Rattle.prt_args.specs.declared.fault.Fault.{Fault}
+use Rattle.prt_args.specs.declared.fault.TheConstants.{DONE, FAULT}
+use Rattle.prt_args.specs.declared.server_place.ServerPlace.{ServerPlace}
+use Rattle.prt_args.specs.declared.serving.ServeArgs.{ServeArgs}
 use Rattle.prt_questions.specs.Closing.{LeavesNoneOpen}
 use Rattle.prt_host.specs.Runs.{AskedIsFound, Asks, FindsAgain, RunBegins, RunIsFound, RunsPrt, Serves, ServiceIsFound, Submits, is_misused, is_stopped, runs, tells}
 use Rattle.prt_host.specs.Serving.{IsNotServed, IsServed, IsServedBy}
 use Rattle.prt_questions.specs.Sources.{Sources}
 use Rattle.prt_questions.specs.Submitting.{IsAllMade, IsSubmitted}
-use Rattle.prt_questions.specs.declared.machine.Wanted.{Wanted}
-use Rattle.prt_questions.specs.declared.machine.Wanted.TheVariants.{Any}
+use Rattle.prt_questions.specs.declared.database_opener.Wanted.{Wanted}
+use Rattle.prt_questions.specs.declared.database_opener.Wanted.TheVariants.{Any}
 use Rattle.prt_questions.proofs.Alone.{RunsRound, runs_alone, runs_nothing_alone}
 
 -- ---- how a run ends
@@ -80,7 +80,7 @@ not_served g opens refuses closes old new path fault (inr served) = inr served.0
 
 module _ {M S : Type 0} (g : Ghosts S) (opens : Wanted → M → M → List ℕ → Held S → Type 0) (refuses : Wanted → M → M → List ℕ → Type 0) (closes : M → M → Held S → Type 0) (mid old new : M) (same : mid ≡ old) where
   -- what was done after the words were read was done from the start on, since no database was touched before
-  pub has_served : (words : List Word) (serving : Serving) (status : ℕ) → IsServiceIn words serving → IsServing serving → (status ≡ DONE → IsServedBy (opens Any) closes g serving.workers mid new serving.database.now) → (status ≢ DONE → status ≡ FAULT)
+  pub has_served : (words : List Word) (serving : ServeArgs) (status : ℕ) → IsServiceIn words serving → IsServing serving → (status ≡ DONE → IsServedBy (opens Any) closes g serving.workers mid new serving.database.now) → (status ≢ DONE → status ≡ FAULT)
       → (status ≢ DONE → (fault : Fault) × IsNotServed (opens Any) (refuses Any) closes g mid new serving.database.now fault) → Serves g opens refuses closes old new words status
   has_served words serving status named limits done fault why =
       let ended : Serves g opens refuses closes mid new words status = record {

@@ -4,7 +4,7 @@ use Rattle.std.proofs.lemmas.List.Elements.{All-nil}
 use Rattle.logbook.specs.Pages.{Book}
 use Rattle.sqlite.specs.Held.{Held}
 use Rattle.sqlite.specs.Store.{Ghosts}
-use Rattle.prt_front.specs.Line.{Line}
+use Rattle.prt_published.specs.Line.{Line}
 use Rattle.prt_publisher.specs.Openings.{OpensOne}
 use Rattle.prt_publisher.specs.Standing.{Standing}
 use Rattle.prt_refusals.specs.declared.refusal.Refusal.{Refusal}
@@ -13,10 +13,10 @@ use Rattle.prt_serve.specs.declared.listen.Accepting.{Accepting}
 use Rattle.prt_serve.specs.declared.listen.Accepting.TheVariants.{Ended, Failed, NoWorkers}
 use Rattle.prt_service.specs.Named.{IsReleased}
 use Rattle.prt_version.specs.State.{State}
-use Rattle.prt_words.specs.Faults.{fault_status}
-use Rattle.prt_words.specs.declared.fault.Fault.{Fault}
-use Rattle.prt_words.specs.declared.fault.Fault.TheVariants.{Listener, Opening}
-use Rattle.prt_words.specs.declared.fault.TheConstants.{FAULT}
+use Rattle.prt_args.specs.Faults.{fault_status}
+use Rattle.prt_args.specs.declared.fault.Fault.{Fault}
+use Rattle.prt_args.specs.declared.fault.Fault.TheVariants.{Listener, Opening}
+use Rattle.prt_args.specs.declared.fault.TheConstants.{FAULT}
 use Rattle.prt_host.specs.Serving.{HasServed, IsFaultOfServing, IsLeft, IsNotServed, fault_of, is_listeners, looker_fault}
 
 abbrev pub has_served : {S : Type 0} (g : Ghosts S) (IsFound : Held S → Type 0) (begun : Standing (Held S)) (last : Held S) (made : OpensOne g IsFound begun) (shifts : List Work) → IsLeft g begun.line.book begun.line.base begun.ours_first shifts last → HasServed g made.was last

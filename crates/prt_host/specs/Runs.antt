@@ -12,22 +12,22 @@ use Rattle.prt_publisher.specs.Openings.{HasOpened}
 use Rattle.prt_rows.specs.Format.{BeginsFormat2}
 use Rattle.prt_store.specs.Exits.{IsKnown}
 use Rattle.prt_version.specs.State.{State}
-use Rattle.prt_words.specs.Read.{IsQuestionIn, IsServiceIn}
-use Rattle.prt_words.specs.Tasks.{IsServing}
-use Rattle.prt_words.specs.Invocation.{Invocation, Submission, ask, serve, submit}
-use Rattle.prt_words.specs.Places.{IsPlace}
-use Rattle.prt_words.specs.declared.fault.TheConstants.{DONE, FAULT}
-use Rattle.prt_words.specs.declared.asking.Asked.{Asked}
-use Rattle.prt_words.specs.declared.serving.Serving.{Serving}
-use Rattle.prt_words.specs.declared.server_place.ServerPlace.{ServerPlace}
-use Rattle.prt_words.specs.declared.task.Mode.{Mode}
+use Rattle.prt_args.specs.Read.{IsQuestionIn, IsServiceIn}
+use Rattle.prt_args.specs.Tasks.{IsServing}
+use Rattle.prt_args.specs.Invocation.{Invocation, Submission, ask, serve, submit}
+use Rattle.prt_args.specs.Places.{IsPlace}
+use Rattle.prt_args.specs.declared.fault.TheConstants.{DONE, FAULT}
+use Rattle.prt_args.specs.declared.asking.Asked.{Asked}
+use Rattle.prt_args.specs.declared.serving.ServeArgs.{ServeArgs}
+use Rattle.prt_args.specs.declared.server_place.ServerPlace.{ServerPlace}
+use Rattle.prt_args.specs.declared.task.Mode.{Mode}
 use Rattle.prt_questions.specs.Closing.{LeavesNoneOpen}
 use Rattle.prt_questions.specs.Done.{IsDone, IsDoneAtMost, IsFound}
 use Rattle.prt_questions.specs.Sessions.{RunsOverMachine}
 use Rattle.prt_questions.specs.Sources.{Sources}
 use Rattle.prt_questions.specs.Submitting.{IsAllMade, IsSubmitted}
-use Rattle.prt_questions.specs.declared.machine.Wanted.{Wanted}
-use Rattle.prt_questions.specs.declared.machine.Wanted.TheVariants.{Any}
+use Rattle.prt_questions.specs.declared.database_opener.Wanted.{Wanted}
+use Rattle.prt_questions.specs.declared.database_opener.Wanted.TheVariants.{Any}
 use Rattle.prt_host.specs.Serving.{HasServed, IsServed, IsServedBy}
 use Rattle.prt_questions.specs.declared.asking.TheConstants.{REFUSED}
 use Rattle.prt_questions.specs.declared.asserting.TheConstants.{UNREADABLE}
@@ -43,7 +43,7 @@ pub record Submits (script : Submission) (from : Sources) (writer0 writer : Opti
 module _ {M S : Type 0} (g : Ghosts S) (opens : Wanted → M → M → List ℕ → Held S → Type 0) (refuses : Wanted → M → M → List ℕ → Type 0) (closes : M → M → Held S → Type 0) (old new : M) where
   -- The database at a path was opened, served and closed; or it was refused, and no other was touched. This is the exit status. If it says that all is well, what was left has each command that a worker replied `ok N` to, at the number N.
   pub record Serves (words : List Word) (status : ℕ) : Type 0 where
-    pub serving : Serving
+    pub serving : ServeArgs
     pub named : IsServiceIn words serving
     pub limits : IsServing serving
     pub done : status ≡ DONE → IsServedBy (opens Any) closes g serving.workers old new serving.database.now

@@ -4,7 +4,7 @@ use Rattle.logbook.specs.Pages.{Book}
 use Rattle.sqlite.specs.Held.{Held}
 use Rattle.sqlite.specs.Store.{Ghosts}
 use Rattle.prt_refusals.specs.declared.refusal.Refusal.{Refusal}
-use Rattle.prt_front.specs.Line.{Line}
+use Rattle.prt_published.specs.Line.{Line}
 use Rattle.prt_publisher.specs.Openings.{OpensOne}
 use Rattle.prt_publisher.specs.Standing.{Standing}
 use Rattle.prt_questions.specs.Closing.{IsClosedAgain, LeavesNoneOpen}
@@ -14,8 +14,8 @@ use Rattle.prt_serve.specs.declared.listen.Accepting.TheVariants.{Failed, NoWork
 use Rattle.prt_serve.specs.declared.listen.ServeEnd.{ServeEnd}
 use Rattle.prt_service.specs.Named.{IsReleased}
 use Rattle.prt_version.specs.State.{State}
-use Rattle.prt_words.specs.declared.fault.Fault.{Fault}
-use Rattle.prt_words.specs.declared.fault.Fault.TheVariants.{Listener, Opening}
+use Rattle.prt_args.specs.declared.fault.Fault.{Fault}
+use Rattle.prt_args.specs.declared.fault.Fault.TheVariants.{Listener, Opening}
 
 abbrev pub is_failed : Accepting → Bool
 is_failed Failed = true

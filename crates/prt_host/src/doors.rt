@@ -1,9 +1,9 @@
 //! Where a server listens, all of it.
 
 use crate::door::{ServerNet, inode_at};
+use prt_args::ServeArgs;
 use prt_questions::Socket;
 use prt_serve::{Entrance, Entrances, Kind};
-use prt_words::Serving;
 use std::alloc::Global;
 use std::fmt;
 use std::fs::Files;
@@ -77,7 +77,7 @@ impl fmt::Display for ListenError {
 }
 
 /// A place that can't be listened at, and why.
-pub(crate) struct NotListened<'a> {
+pub(crate) struct PlaceError<'a> {
     pub(crate) place: Place<'a>,
     pub(crate) error: ListenError,
 }
@@ -158,9 +158,9 @@ impl<N: ServerNet> Doors<N> {
         files: &F,
         alloc: Global,
         directory: &'a str,
-    ) -> Result<(), NotListened<'a>> {
+    ) -> Result<(), PlaceError<'a>> {
         if directory.is_empty() {
-            return Err(NotListened {
+            return Err(PlaceError {
                 place: Place::Directory("--sockets"),
                 error: ListenError::NoName,
             });
@@ -172,7 +172,7 @@ impl<N: ServerNet> Doors<N> {
                     _ => Place::Socket(directory, socket.name()),
                 };
                 let error = ListenError::of_socket(error);
-                return Err(NotListened { place, error });
+                return Err(PlaceError { place, error });
             }
         }
         Ok(())
@@ -198,16 +198,16 @@ fn tell_place<P: fmt::Display, W: Write>(
     word: &str,
     place: &P,
     output: &mut W,
-) -> Result<(), NotListened<'static>> {
+) -> Result<(), PlaceError<'static>> {
     let told = write!(output, "{word} {place}\n").and_then(|()| output.flush());
     named(Place::Output, told)
 }
 
 /// Names the place in the error, if there is one.
-fn named<T>(place: Place<'_>, done: io::Result<T>) -> Result<T, NotListened<'_>> {
+fn named<T>(place: Place<'_>, done: io::Result<T>) -> Result<T, PlaceError<'_>> {
     match done {
         Ok(made) => Ok(made),
-        Err(error) => Err(NotListened {
+        Err(error) => Err(PlaceError {
             place,
             error: ListenError::System(error),
         }),
@@ -222,7 +222,7 @@ fn open_port<N: ServerNet, W: Write>(
     asked: Option<SocketAddrV4>,
     word: &str,
     output: &mut W,
-) -> Result<(), NotListened<'static>> {
+) -> Result<(), PlaceError<'static>> {
     let Some(place) = asked else {
         return Ok(());
     };
@@ -235,9 +235,9 @@ fn open_port<N: ServerNet, W: Write>(
 fn open_ports<N: ServerNet, W: Write>(
     doors: &mut Doors<N>,
     rt: &N,
-    asked: &Serving<'_>,
+    asked: &ServeArgs<'_>,
     output: &mut W,
-) -> Result<(), NotListened<'static>> {
+) -> Result<(), PlaceError<'static>> {
     open_port(
         doors,
         rt,
@@ -256,9 +256,9 @@ fn open_all<'a, N: ServerNet, F: Files, W: Write>(
     rt: &N,
     files: &F,
     alloc: Global,
-    asked: &Serving<'a>,
+    asked: &ServeArgs<'a>,
     output: &mut W,
-) -> Result<(), NotListened<'a>> {
+) -> Result<(), PlaceError<'a>> {
     open_ports(doors, rt, asked, output)?;
     if let Some(directory) = asked.sockets {
         doors.open_sockets(rt, files, alloc, directory)?;
@@ -277,9 +277,9 @@ pub(crate) fn listen<'a, N: ServerNet, F: Files, W: Write>(
     rt: &N,
     files: &F,
     alloc: Global,
-    asked: &Serving<'a>,
+    asked: &ServeArgs<'a>,
     output: &mut W,
-) -> Result<Doors<N>, NotListened<'a>> {
+) -> Result<Doors<N>, PlaceError<'a>> {
     let mut doors = Doors::new(alloc);
     match open_all(&mut doors, rt, files, alloc, asked, output) {
         Ok(()) => Ok(doors),

@@ -2,14 +2,14 @@
 ghost use Rattle.prt_host.specs.Runs.{RunsPrt};
 ghost use Rattle.prt_program.specs.Program.{streams_of};
 ghost use Rattle.prt_questions.specs.Sources.{sources_of};
-ghost use Rattle.prt_words.specs.Invocation.{arguments, invocation};
+ghost use Rattle.prt_args.specs.Invocation.{arguments, invocation};
 
 use crate::door::ServerNet;
 use crate::server::serve;
 use crate::status::Measures;
 use crate::telling::{tell_failure, tell_failures};
-use prt_program::{Next, Noting, ReadFiles, program};
-use prt_questions::{DatabaseFiles, Machine, answer_question, submit_script};
+use prt_program::{ErrorKeeping, Next, ReadFiles, program};
+use prt_questions::{DatabaseFiles, DatabaseOpener, answer_question, submit_script};
 use sqlite::{Alter, Connection};
 use std::alloc::Global;
 use std::fs::Files;
@@ -28,7 +28,7 @@ use std::thread::Threads;
 /// At the end `errors` says why the input or the output failed, if one did.
 pub fn run<
     S: Alter + Drop + Send,
-    M: Machine<Connection<S>> + Drop,
+    M: DatabaseOpener<Connection<S>> + Drop,
     F: Files + ReadFiles + Measures + Clock + Drop + Sync,
     N: ServerNet + Threads + Wait + Clock + Copy + Drop + Send + Sync,
     R: Read,
@@ -38,16 +38,16 @@ pub fn run<
     databases: &mut DatabaseFiles<'_, S, M, F, N>,
     alloc: Global,
     words: &[String],
-    input: &mut Noting<R>,
-    output: &mut Noting<W>,
+    input: &mut ErrorKeeping<R>,
+    output: &mut ErrorKeeping<W>,
     mut errors: E,
 ) -> u8
 where
     N::Stream: Send,
     N::Door: Sync,
     ensures { RunsPrt S.Store M.opens M.refuses M.closes databases.old.machine databases.new.machine (F.opens databases.old.files.now) F.Opened.remaining
-        (sources_of F.opens F.Opened.remaining databases.old.files.now N.reaches N.Stream.remaining databases.old.rt (⟦<Noting<R> as Read>⟧.remaining input.old)) (invocation (arguments words.now))
-        (streams_of (⟦<Noting<R> as Read>⟧.remaining input.old) (⟦<Noting<W> as Write>⟧.contents output.old) (⟦<Noting<W> as Write>⟧.contents output.new)) result }
+        (sources_of F.opens F.Opened.remaining databases.old.files.now N.reaches N.Stream.remaining databases.old.rt (⟦<ErrorKeeping<R> as Read>⟧.remaining input.old)) (invocation (arguments words.now))
+        (streams_of (⟦<ErrorKeeping<R> as Read>⟧.remaining input.old) (⟦<ErrorKeeping<W> as Write>⟧.contents output.old) (⟦<ErrorKeeping<W> as Write>⟧.contents output.new)) result }
 {
     let files = databases.files;
     let next = program(files, databases, alloc, words, input, output, &mut errors);

@@ -1,7 +1,7 @@
 //! Laws of runs, which no program calls.
 ghost use Rattle.prt_host.specs.Runs.{AskedIsFound, RunBegins, RunIsFound, ServiceIsFound};
 
-use prt_questions::{Machine, Wanted};
+use prt_questions::{DatabaseOpener, Wanted};
 use sqlite::{Alter, Connection};
 
 /// A run begins with the state that its opening made (`begins`). An opening after a run makes a state that the session of
@@ -11,7 +11,7 @@ use sqlite::{Alter, Connection};
 /// Premises: the later opening is handed what was left, as it was when it was handed to its closing, or as a crash left it
 /// then. Of files that are handed on `prt_desk::files_keep` says so. The disk returns what was written, and our tables
 /// are the first of the file.
-pub fn runs_go_on<S: Alter, M: Machine<Connection<S>>>()
+pub fn runs_go_on<S: Alter, M: DatabaseOpener<Connection<S>>>()
     ensures begins { RunBegins S.Store (M.opens Wanted.Any) M.closes }
     ensures run { RunIsFound S.Store (M.opens Wanted.Any) M.closes }
     ensures served { ServiceIsFound S.Store }

@@ -15,5 +15,5 @@ mod telling;
 pub use door::{Door, ServerNet};
 pub use entry::run;
 pub use laws::runs_go_on;
-pub use prt_questions::{DatabaseFiles, Machine, Wanted};
+pub use prt_questions::{DatabaseFiles, DatabaseOpener, Wanted};
 pub use status::Measures;

@@ -1,22 +1,22 @@
 //! The server: a database that is opened, served and closed.
 ghost use Rattle.std.specs.Prelude.{◌≡◌, ◌≢◌, IfErr, IfSome, List, None, OnOk, Some, length};
 ghost use Rattle.prt_host.specs.Serving.{IsFaultOfServing, IsLeft, IsNotServed, IsServedBy, fault_of};
-ghost use Rattle.prt_words.specs.Faults.{fault_status};
-ghost use Rattle.prt_words.specs.declared.fault.Fault.{Fault};
+ghost use Rattle.prt_args.specs.Faults.{fault_status};
+ghost use Rattle.prt_args.specs.declared.fault.Fault.{Fault};
 ghost use Rattle.prt_publisher.specs.Standing.{IsQuiet};
 ghost use Rattle.prt_serve.specs.Kept.{Work};
 
 use crate::door::ServerNet;
-use crate::doors::{NotListened, listen};
+use crate::doors::{PlaceError, listen};
 use crate::serving::{faults_of, serve_named};
 use crate::status::Measures;
 use crate::telling::tell_shared;
+use prt_args::{DONE, FAULT, Fault, ServeArgs, report};
 use prt_grace::Domain;
 use prt_program::{cause_message, log_message};
 use prt_publisher::Publisher;
-use prt_questions::{DatabaseFiles, Machine, Wanted, open_publisher};
+use prt_questions::{DatabaseFiles, DatabaseOpener, Wanted, open_publisher};
 use prt_serve::{Entrances, ServeEnd};
-use prt_words::{DONE, FAULT, Fault, Serving, report};
 use sqlite::{Alter, Connection};
 use std::alloc::Global;
 use std::fmt::Display;
@@ -29,7 +29,7 @@ use std::thread::Threads;
 
 /// Why nothing is served, or no more.
 #[derive(Drop)]
-struct NotServed {
+struct ServeError {
     fault: Fault,
     /// What failed besides.
     further: Option<Fault>,
@@ -37,21 +37,21 @@ struct NotServed {
     message: Option<String>,
 }
 
-impl NotServed {
+impl ServeError {
     /// Makes a fault with its cause, which befell what is at this place.
     fn new<P: Display, D: Display>(
         alloc: Global,
         fault: Fault,
         place: &P,
         cause: Option<&D>,
-    ) -> NotServed
+    ) -> ServeError
         ensures { result.fault ≡ fault }
     {
         let message = match cause {
             Some(cause) => cause_message(alloc, place, cause).ok(),
             None => None,
         };
-        NotServed {
+        ServeError {
             fault,
             further: None,
             message,
@@ -59,13 +59,13 @@ impl NotServed {
     }
 
     /// Makes that of an end of serving, unless all that was asked for was served.
-    fn of_end(end: ServeEnd) -> Option<NotServed>
+    fn of_end(end: ServeEnd) -> Option<ServeError>
         ensures fault { IfSome result (λ failure. fault_of end ≡ Some failure.fault) }
         ensures none { result ≡ None → fault_of end ≡ None }
     {
         let (fault, further) = faults_of(end);
         match fault {
-            Some(fault) => Some(NotServed {
+            Some(fault) => Some(ServeError {
                 fault,
                 further,
                 message: None,
@@ -102,9 +102,9 @@ fn serve_at<
     mut publisher: Publisher<S>,
     domain: Domain,
     entrances: &Entrances<N::Door>,
-    asked: &Serving<'_>,
+    asked: &ServeArgs<'_>,
     errors: &Mutex<E>,
-) -> (Option<NotServed>, Connection<S>)
+) -> (Option<ServeError>, Connection<S>)
 where
     N::Stream: Send,
     N::Door: Sync,
@@ -116,14 +116,14 @@ where
         Ok(seats) => seats,
         Err(refusal) => {
             let opening = Fault::Opening(refusal);
-            let failure = NotServed::new(alloc, opening, &asked.database, None::<&io::Error>);
+            let failure = ServeError::new(alloc, opening, &asked.database, None::<&io::Error>);
             return (Some(failure), publisher.end(rt));
         }
     };
     let (end, conn) = serve_named::<Brand, _, _, _, _, _, _>(
         rt, alloc, files, publisher, seats, domain, entrances, asked, errors,
     );
-    (NotServed::of_end(end), conn)
+    (ServeError::of_end(end), conn)
 }
 
 /// Listens, and serves what comes over a publisher. Returns why not all that was asked for was served, and the connection.
@@ -139,10 +139,10 @@ fn serve_over<
     files: &F,
     publisher: Publisher<S>,
     domain: Domain,
-    asked: &Serving<'_>,
+    asked: &ServeArgs<'_>,
     output: &mut W,
     errors: &Mutex<E>,
-) -> (Option<NotServed>, Connection<S>)
+) -> (Option<ServeError>, Connection<S>)
 where
     N::Stream: Send,
     N::Door: Sync,
@@ -152,8 +152,8 @@ where
 {
     let doors = match listen(rt, files, alloc, asked, output) {
         Ok(doors) => doors,
-        Err(NotListened { place, error }) => {
-            let failure = NotServed::new(alloc, Fault::Listener, &place, Some(&error));
+        Err(PlaceError { place, error }) => {
+            let failure = ServeError::new(alloc, Fault::Listener, &place, Some(&error));
             return (Some(failure), publisher.end(rt));
         }
     };
@@ -178,7 +178,7 @@ where
 /// The fault that ended it, with its cause if one is known. The database is closed then too.
 fn serve_database<
     S: Alter + Drop + Send,
-    M: Machine<Connection<S>> + Drop,
+    M: DatabaseOpener<Connection<S>> + Drop,
     F: Files + Measures + Sync,
     N: ServerNet + Threads + Wait + Clock + Copy + Drop + Send + Sync,
     W: Write,
@@ -186,10 +186,10 @@ fn serve_database<
 >(
     databases: &mut DatabaseFiles<'_, S, M, F, N>,
     alloc: Global,
-    asked: &Serving<'_>,
+    asked: &ServeArgs<'_>,
     output: &mut W,
     errors: &Mutex<E>,
-) -> Result<(), NotServed>
+) -> Result<(), ServeError>
 where
     N::Stream: Send,
     N::Door: Sync,
@@ -202,7 +202,7 @@ where
         Ok(made) => made,
         Err((refusal, cause)) => {
             let fault = Fault::Opening(refusal);
-            return Err(NotServed::new(alloc, fault, &path, cause.as_ref()));
+            return Err(ServeError::new(alloc, fault, &path, cause.as_ref()));
         }
     };
     let files = databases.files;
@@ -225,7 +225,7 @@ where
 /// and the tables that are left stand for it.
 pub(crate) fn serve<
     S: Alter + Drop + Send,
-    M: Machine<Connection<S>> + Drop,
+    M: DatabaseOpener<Connection<S>> + Drop,
     F: Files + Measures + Sync,
     N: ServerNet + Threads + Wait + Clock + Copy + Drop + Send + Sync,
     W: Write,
@@ -233,7 +233,7 @@ pub(crate) fn serve<
 >(
     databases: &mut DatabaseFiles<'_, S, M, F, N>,
     alloc: Global,
-    asked: &Serving<'_>,
+    asked: &ServeArgs<'_>,
     output: &mut W,
     errors: E,
 ) -> u8

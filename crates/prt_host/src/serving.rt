@@ -7,14 +7,14 @@ ghost use Rattle.prt_service.specs.Named.{IsNamed};
 
 use crate::counts::Counts;
 use crate::status::Measures;
-use crate::telling::Telling;
-use prt_front::Known;
+use crate::telling::ReportingGate;
+use prt_args::{Fault, ServeArgs};
 use prt_grace::Domain;
 use prt_program::Refusal;
+use prt_published::Known;
 use prt_publisher::{Publisher, Seats};
 use prt_serve::{Accepting, Entrances, Limits, ServeEnd, Shift, Worked, serve_entrances};
-use prt_service::{Naming, Released, Service};
-use prt_words::{Fault, Serving};
+use prt_service::{Released, Service, ServiceBrand};
 use sqlite::{Alter, Connection};
 use std::alloc::Global;
 use std::io::{Read, Write};
@@ -35,7 +35,7 @@ fn idle_of(seconds: u64) -> Option<Duration> {
 }
 
 /// Computes how much is to be served.
-fn limits_of(asked: &Serving<'_>) -> Limits
+fn limits_of(asked: &ServeArgs<'_>) -> Limits
     ensures { result.workers ≡ asked.now.workers }
 {
     Limits {
@@ -46,9 +46,9 @@ fn limits_of(asked: &Serving<'_>) -> Limits
 }
 
 /// Serves what comes at the entrances by a service, and reports on `errors` why a commit failed, and why nothing is accepted.
-fn serve_telling<
+fn serve_reporting<
     'a,
-    J: Naming + Send,
+    J: ServiceBrand + Send,
     S: Alter + Drop + Send,
     H: Threads + Wait + Clock + Sync,
     F: Measures + Sync,
@@ -68,7 +68,7 @@ fn serve_telling<
 ) -> Worked<J>
     ensures { result.end.accepting ≢ Accepting.Failed → result.end.refused ≡ None → vec_len result.shifts ≡ limits.workers }
 {
-    let telling = Telling {
+    let gate = ReportingGate {
         rt,
         alloc,
         service,
@@ -80,11 +80,11 @@ fn serve_telling<
         is_failure_told: AtomicBool::new(false),
         accept_told: Mutex::new(None),
     };
-    serve_entrances(rt, alloc, service, &telling, entrances, limits)
+    serve_entrances(rt, alloc, service, &gate, entrances, limits)
 }
 
 /// Checks whether the published list keeps all that the workers replied `ok` to.
-fn are_kept<J: Naming>(published: &Known, shifts: &[Shift<J>]) -> bool
+fn are_kept<J: ServiceBrand>(published: &Known, shifts: &[Shift<J>]) -> bool
     requires { published.now.book ≡ J.book }
     ensures { result ≡ true → All (Keeps published.now) shifts.now }
 {
@@ -110,7 +110,7 @@ fn not_kept(end: ServeEnd) -> ServeEnd
 ///
 /// At the end the list that each worker knew is compared with the published one: if it weren't a prefix, that is a fault.
 pub(crate) fn serve_named<
-    J: Naming + Send,
+    J: ServiceBrand + Send,
     S: Alter + Drop + Send,
     H: Threads + Wait + Clock + Sync,
     F: Measures + Sync,
@@ -125,7 +125,7 @@ pub(crate) fn serve_named<
     seats: Seats,
     domain: Domain,
     entrances: &Entrances<L>,
-    asked: &Serving<'_>,
+    asked: &ServeArgs<'_>,
     errors: &Mutex<E>,
 ) -> (ServeEnd, Connection<S>)
     requires quiet { IsQuiet publisher.phase }
@@ -134,7 +134,7 @@ pub(crate) fn serve_named<
     ensures { (shifts : List Work) × IsLeft S.Store J.book J.base J.ours_first shifts result.1 × (fault_of result.0 ≡ None → length shifts ≡ asked.now.workers) }
 {
     let service: Service<S, J> = Service::new(publisher, seats, domain);
-    let Worked { end, shifts } = serve_telling(
+    let Worked { end, shifts } = serve_reporting(
         rt,
         alloc,
         files,

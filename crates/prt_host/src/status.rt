@@ -17,10 +17,10 @@
 //! - `state`: `open`, or `closed` and why no command is taken
 
 use crate::counts::Counted;
+use prt_args::VERSION;
 use prt_grace::Retention;
 use prt_refusals::{Refusal, StoreCall};
 use prt_service::{Figures, contents_of};
-use prt_words::VERSION;
 use sqlite::Error;
 use std::alloc::{AllocError, Global};
 use std::fmt;

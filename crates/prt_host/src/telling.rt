@@ -3,10 +3,10 @@ use crate::counts::Counts;
 use crate::log::log_line;
 use crate::status::{Measures, Status, sizes_of, status_text};
 use prt_command::Command;
-use prt_program::{Noting, Refusal, cause_message};
+use prt_program::{ErrorKeeping, Refusal, cause_message};
 use prt_questions::tell;
 use prt_serve::{Gate, Queued};
-use prt_service::{Naming, Service};
+use prt_service::{Service, ServiceBrand};
 use prt_session::Reply;
 use prt_spelling::command_line;
 use sqlite::Alter;
@@ -33,7 +33,7 @@ pub(crate) fn tell_shared<H: Wait, E: Write + Drop>(
 pub(crate) fn tell_failure<S, E: Write>(
     alloc: Global,
     name: &str,
-    stream: &Noting<S>,
+    stream: &ErrorKeeping<S>,
     errors: &mut E,
 ) {
     if let Some(error) = stream.error() {
@@ -44,8 +44,8 @@ pub(crate) fn tell_failure<S, E: Write>(
 /// Reports why the standard input and the standard output failed, if they did.
 pub(crate) fn tell_failures<R, W, E: Write>(
     alloc: Global,
-    input: &Noting<R>,
-    output: &Noting<W>,
+    input: &ErrorKeeping<R>,
+    output: &ErrorKeeping<W>,
     errors: &mut E,
 ) {
     tell_failure(alloc, "standard input", input, errors);
@@ -59,11 +59,11 @@ const TELLING_PAUSE: u64 = 60;
 /// connection could be accepted, too, at most once a minute. It counts what becomes of commands and of sessions, logs
 /// accepted commands if that is asked for, and makes the status.
 #[derive(Drop)]
-pub(crate) struct Telling<
+pub(crate) struct ReportingGate<
     'a,
     H: Wait + Clock,
     S: Alter + Drop,
-    J: Naming,
+    J: ServiceBrand,
     F: Measures,
     E: Write + Drop,
 > {
@@ -84,14 +84,14 @@ pub(crate) struct Telling<
     pub(crate) accept_told: Mutex<Option<Duration>>,
 }
 
-impl<'a, H: Wait + Clock, S: Alter + Drop, J: Naming, F: Measures, E: Write + Drop> Telling<
+impl<
     'a,
-    H,
-    S,
-    J,
-    F,
-    E,
-> {
+    H: Wait + Clock,
+    S: Alter + Drop,
+    J: ServiceBrand,
+    F: Measures,
+    E: Write + Drop,
+> ReportingGate<'a, H, S, J, F, E> {
     /// Decides whether a failed acceptance is reported now, and notes that it is. Without a clock it is reported once.
     fn is_due(&self) -> bool {
         let now = self.rt.monotonic().unwrap_or(Duration::from_secs(0));
@@ -139,8 +139,8 @@ impl<'a, H: Wait + Clock, S: Alter + Drop, J: Naming, F: Measures, E: Write + Dr
     }
 }
 
-impl<'a, H: Wait + Clock, S: Alter + Drop, J: Naming, F: Measures, E: Write + Drop> Gate
-    for Telling<'a, H, S, J, F, E> {
+impl<'a, H: Wait + Clock, S: Alter + Drop, J: ServiceBrand, F: Measures, E: Write + Drop> Gate
+    for ReportingGate<'a, H, S, J, F, E> {
     fn before(&self, _session: u64, _line: u64) {}
 
     fn after(&self, session: u64, client: &SocketAddr, _line: u64, text: &[u8], reply: &Reply) {

@@ -6,14 +6,14 @@ use Rattle.std.specs.List.{count_by, fold}
 use Rattle.std.specs.Prelude.{◌==◌, codes}
 use Rattle.prt_import.specs.Comments.{comment, count_body, count_comment, kernel_routes}
 use Rattle.prt_import.specs.Told.{is_kernel_made, remark_of}
-use Rattle.prt_import.specs.declared.left.Left.{Left}
+use Rattle.prt_import.specs.declared.omitted_line.OmittedLine.{OmittedLine}
 
 fold_map : {A X Y : Type 0} (f : A → Y → A) (g : X → Y) (a : A) (xs : List X) → fold f a (map g xs) ≡ fold (λ a x. f a (g x)) a xs
 fold_map f g a [] = refl
 fold_map f g a (x ∷ xs) = fold_map f g (f a (g x)) xs
 
 -- as many of the remarks are of routes that the kernel makes as of the lines
-pub same_count : (left : List Left) → count_by (λ r. is_kernel_made r.reason) (map remark_of left) ≡ kernel_routes left
+pub same_count : (left : List OmittedLine) → count_by (λ r. is_kernel_made r.reason) (map remark_of left) ≡ kernel_routes left
 same_count left = fold_map (λ n r. n + cond (is_kernel_made r.reason) 1 0) remark_of 0 left
 
 -- ---- the comment with the count

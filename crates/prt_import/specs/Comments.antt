@@ -11,7 +11,7 @@ use Rattle.prt_refusals.specs.declared.refusal.Refusal.{Refusal}
 use Rattle.prt_import.specs.Keys.{destination_of}
 use Rattle.prt_import.specs.Lines.{lines_of}
 use Rattle.prt_import.specs.Told.{Remark, is_kernel_made}
-use Rattle.prt_import.specs.declared.left.Left.{Left}
+use Rattle.prt_import.specs.declared.omitted_line.OmittedLine.{OmittedLine}
 use Rattle.prt_import.specs.declared.reason.Reason.{Reason}
 use Rattle.prt_import.specs.declared.reason.Reason.TheVariants as reasons
 
@@ -60,7 +60,7 @@ remark_body remark = take 900 (spaced_words (words remark.text)) ++ codes ": " +
 abbrev pub remark_comment : Remark → List ℕ
 remark_comment remark = if is_kernel_made remark.reason then [] else comment (remark_body remark) ++ codes "\n"
 
-abbrev pub kernel_routes : List Left → ℕ
+abbrev pub kernel_routes : List OmittedLine → ℕ
 kernel_routes left = count_by (λ line. is_kernel_made line.reason) left
 
 abbrev pub count_body : ℕ → List ℕ

@@ -9,8 +9,8 @@ use Rattle.prt_import.specs.declared.known.Meaning.{Meaning}
 use Rattle.prt_import.specs.declared.known.Meaning.TheVariants.{Before, Told}
 use Rattle.prt_import.specs.declared.known.Object.{Object}
 use Rattle.prt_import.specs.declared.known.Role.TheVariants as roles
-use Rattle.prt_import.specs.declared.left.Left.{Left}
-use Rattle.prt_import.specs.declared.left.Source.{Source}
+use Rattle.prt_import.specs.declared.omitted_line.OmittedLine.{OmittedLine}
+use Rattle.prt_import.specs.declared.omitted_line.Source.{Source}
 use Rattle.prt_import.specs.declared.reason.Reason.{Reason}
 use Rattle.prt_import.specs.declared.reason.Reason.TheVariants as reasons
 use Rattle.prt_import.specs.declared.step.Place.{Place}
@@ -39,7 +39,7 @@ first_bytes text = take longest_line text
 abbrev pub remark : Numbered → Word → Reason → Remark
 remark line w reason = record { line = line.number; word = first_bytes w; reason = reason; text = first_bytes line.content }
 
-abbrev pub remark_of : Left → Remark
+abbrev pub remark_of : OmittedLine → Remark
 remark_of left = record { line = left.line; word = left.word.items; reason = left.reason; text = left.text.items }
 
 -- the route is one that the kernel makes itself

@@ -8,8 +8,8 @@ ghost use Rattle.prt_import.specs.Told.{numbered, remark};
 ghost use Rattle.prt_import.specs.declared.reason.Reason.TheVariants.{Refused};
 
 use crate::draft::push_line;
-use crate::left::{Left, Source};
 use crate::lines::next_line;
+use crate::omitted_line::{OmittedLine, Source};
 use crate::reason::Reason;
 use prt_command::Refusal;
 use prt_lines::next_version;
@@ -24,7 +24,7 @@ pub struct Accepted {
     /// The version that they make.
     pub version: Version,
     /// The lines that are refused, with their numbers in the script and `Reason::Refused`.
-    pub left: Vec<Left>,
+    pub left: Vec<OmittedLine>,
 }
 
 impl Accepted {
@@ -65,7 +65,7 @@ impl Accepted {
         match refusal {
             Refusal::NoMemory => Err(Refusal::NoMemory),
             _ => {
-                let left = Left::new(alloc, source, b"", Reason::Refused(refusal))?;
+                let left = OmittedLine::new(alloc, source, b"", Reason::Refused(refusal))?;
                 self.left.push(left)?;
                 Ok(())
             }

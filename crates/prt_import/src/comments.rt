@@ -7,8 +7,8 @@ ghost use Rattle.prt_import.specs.Told.{remark_of};
 
 use crate::draft::push_line;
 use crate::keys::destination_of;
-use crate::left::Left;
 use crate::lines::next_line;
+use crate::omitted_line::OmittedLine;
 use prt_addr::{Addr, read_prefix};
 use prt_command::{is, next_word};
 use prt_listing::{Part, Value, push_part, push_text};
@@ -38,7 +38,7 @@ fn spaced_words(alloc: Global, line: &[u8]) -> Result<Vec<u8>, AllocError>
 }
 
 /// Builds what the comment for a line says: its words, and why it is left out.
-fn remark_body(alloc: Global, left: &Left) -> Result<Vec<u8>, AllocError>
+fn remark_body(alloc: Global, left: &OmittedLine) -> Result<Vec<u8>, AllocError>
     ensures { IfOk result (λ made. made.items ≡ remark_body (remark_of left.now)) }
 {
     let mut made = spaced_words(alloc, &left.text)?;
@@ -96,7 +96,7 @@ fn comment(alloc: Global, body: &[u8]) -> Result<Vec<u8>, AllocError>
 }
 
 /// Appends the comment for a line, unless the kernel makes its route itself.
-fn push_remark(out: &mut Vec<u8>, alloc: Global, left: &Left) -> Result<(), AllocError>
+fn push_remark(out: &mut Vec<u8>, alloc: Global, left: &OmittedLine) -> Result<(), AllocError>
     ensures { OnOk result (out.new.items ≡ out.old.items ++ remark_comment (remark_of left.now)) }
 {
     if left.is_kernel_made() {
@@ -107,7 +107,7 @@ fn push_remark(out: &mut Vec<u8>, alloc: Global, left: &Left) -> Result<(), Allo
 }
 
 /// Counts the lines that are left out since the kernel makes their routes itself, for the addresses of its interfaces.
-pub fn kernel_routes(left: &[Left]) -> usize
+pub fn kernel_routes(left: &[OmittedLine]) -> usize
     ensures { result ≡ kernel_routes left.now }
 {
     left.iter().filter(|line| line.is_kernel_made()).count()
@@ -135,7 +135,7 @@ fn push_count(out: &mut Vec<u8>, alloc: Global, count: usize) -> Result<(), Allo
 }
 
 /// Appends the comment for each of the lines, unless the kernel makes its route itself.
-fn push_remarks(out: &mut Vec<u8>, alloc: Global, left: &[Left]) -> Result<(), AllocError>
+fn push_remarks(out: &mut Vec<u8>, alloc: Global, left: &[OmittedLine]) -> Result<(), AllocError>
     ensures { OnOk result (out.new.items ≡ out.old.items ++ flat_map remark_comment (map remark_of left.now)) }
 {
     for line in left {
@@ -150,7 +150,7 @@ fn push_remarks(out: &mut Vec<u8>, alloc: Global, left: &[Left]) -> Result<(), A
 pub(crate) fn push_comments(
     out: &mut Vec<u8>,
     alloc: Global,
-    left: &[Left],
+    left: &[OmittedLine],
 ) -> Result<(), AllocError>
     ensures { OnOk result (out.new.items ≡ out.old.items ++ comments (map remark_of left.now)) }
 {

@@ -14,9 +14,9 @@ use crate::comments::push_comments;
 use crate::fault::Fault;
 use crate::imported::Imported;
 use crate::known::Object;
-use crate::left::{Left, Source};
 use crate::lines::next_line;
 use crate::names::HostNames;
+use crate::omitted_line::{OmittedLine, Source};
 use crate::reason::Reason;
 use crate::route::{RouteLine, continuation_of, route_line};
 use crate::rule::{priority_of, rule_line};
@@ -40,8 +40,8 @@ pub(crate) struct Draft {
     has_rules: bool,
     /// Whether the last line is a route's, or goes on with one.
     is_in_route: bool,
-    left: Vec<Left>,
-    notes: Vec<Left>,
+    left: Vec<OmittedLine>,
+    notes: Vec<OmittedLine>,
 }
 
 /// Appends a line and a newline.
@@ -95,7 +95,7 @@ impl Draft {
     fn leave(&mut self, source: Source<'_>, word: &[u8], reason: Reason) -> Result<(), AllocError>
         ensures { OnOk result (Adds self.old self.new (left_out (numbered source.entry) word.now reason)) }
     {
-        let left = Left::new(self.alloc, source, word, reason)?;
+        let left = OmittedLine::new(self.alloc, source, word, reason)?;
         self.left.push(left)?;
         Ok(())
     }

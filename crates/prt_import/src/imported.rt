@@ -6,9 +6,9 @@ ghost use Rattle.prt_import.specs.ScriptLines.{IsScript};
 ghost use Rattle.prt_import.specs.TableNames.{known_names};
 
 use crate::draft::Draft;
-use crate::left::{Left, Source};
 use crate::lines::next_line;
 use crate::names::HostNames;
+use crate::omitted_line::{OmittedLine, Source};
 use prt_command::Refusal;
 use std::alloc::Global;
 
@@ -18,9 +18,9 @@ pub struct Imported {
     /// Comments that say what is left out, and then lines that make the rules and the routes, each with a newline.
     pub script: Vec<u8>,
     /// The lines that are left out of it, in order.
-    pub left: Vec<Left>,
+    pub left: Vec<OmittedLine>,
     /// What is left out of lines that it has, in order.
-    pub notes: Vec<Left>,
+    pub notes: Vec<OmittedLine>,
 }
 
 /// Reads what `ip -4 route show table all` and `ip -4 rule` print, in any order, one after the other.

@@ -5,8 +5,8 @@ ghost use Rattle.prt_import.specs.TableNames.{known_names};
 ghost use Rattle.prt_import.specs.Told.{fault_word, is_kernels, is_kernels_value, note_of, noted, notes_of, numbered, remark_of};
 
 use crate::known::{Meaning, Object, Role, meaning_of};
-use crate::left::{Left, Source};
 use crate::names::HostNames;
+use crate::omitted_line::{OmittedLine, Source};
 use crate::reason::Reason;
 use crate::step::{Place, step_of};
 use prt_command::{is, next_word};
@@ -49,7 +49,7 @@ fn note_of(object: Object, place: Place, word: &[u8]) -> Option<Reason>
 /// Records a word of a line, if it is one that is reported.
 fn push_note(
     alloc: Global,
-    notes: &mut Vec<Left>,
+    notes: &mut Vec<OmittedLine>,
     source: Source<'_>,
     object: Object,
     place: Place,
@@ -59,7 +59,7 @@ fn push_note(
 {
     match note_of(object, place, word) {
         Some(reason) => {
-            notes.push(Left::new(alloc, source, word, reason)?)?;
+            notes.push(OmittedLine::new(alloc, source, word, reason)?)?;
             Ok(())
         }
         None => Ok(()),
@@ -69,7 +69,7 @@ fn push_note(
 /// Records each word that is left off, in a text that begins at this place of a line.
 pub(crate) fn push_notes(
     alloc: Global,
-    notes: &mut Vec<Left>,
+    notes: &mut Vec<OmittedLine>,
     source: Source<'_>,
     names: &HostNames,
     object: Object,

@@ -12,8 +12,8 @@ use Rattle.json.specs.declared.error.Error.TheVariants.{Invalid, OutOfMemory, To
 use Rattle.json.proofs.Grammar.{items_end, items_fail, items_more, value-begin_array, value-begin_object, value_is}
 use Rattle.prt_ip_json.specs.Listing.{document_lines, line, lines}
 use Rattle.prt_ip_json.specs.Steps.{Appends, reason}
-use Rattle.prt_ip_json.specs.declared.fault.NotListed.{NotListed}
-use Rattle.prt_ip_json.specs.declared.fault.NotListed.TheVariants.{NoJson, NoMemory}
+use Rattle.prt_ip_json.specs.declared.fault.ListingError.{ListingError}
+use Rattle.prt_ip_json.specs.declared.fault.ListingError.TheVariants.{NoJson, NoMemory}
 
 -- of what was read, the lines after these, with the tokens that are left
 abbrev pub shown : List ℕ → Option (Items × List Token) → Option (List ℕ × List Token)
@@ -102,7 +102,7 @@ values_fail n ts all start old before going failed = shown_none start old all (b
 
 -- ---- reasons
 
-abbrev reason_of : {A : Type 0} → Result A NotListed → NotListed
+abbrev reason_of : {A : Type 0} → Result A ListingError → ListingError
 reason_of (Ok a) = NoMemory
 reason_of (Err fault) = fault
 
@@ -112,16 +112,16 @@ only_invalid OutOfMemory why long twice = absurd (cc)
 only_invalid TooLong why long twice = absurd (long refl)
 only_invalid DuplicateKey why long twice = absurd (twice refl)
 
-abbrev pub Fails : Type 0 → NotListed → NotListed → Type 0
-Fails A fault because = ◌≡◌ {A = Result A NotListed} (Err fault) (Err because)
+abbrev pub Fails : Type 0 → ListingError → ListingError → Type 0
+Fails A fault because = ◌≡◌ {A = Result A ListingError} (Err fault) (Err because)
 
 abbrev pub Refuses : Type 0 → Error → Error → Type 0
 Refuses A error because = ◌≡◌ {A = Result A Error} (Err error) (Err because)
 
 -- what failed as no JSON was no value
-pub invalid : {A B C : Type 0} (error : Error) (fault : NotListed) → fault ≡ reason error → Fails A fault NoJson → (Refuses B error TooLong → ⊥) → (Refuses B error DuplicateKey → ⊥) → (Refuses B error Invalid → C) → C
+pub invalid : {A B C : Type 0} (error : Error) (fault : ListingError) → fault ≡ reason error → Fails A fault NoJson → (Refuses B error TooLong → ⊥) → (Refuses B error DuplicateKey → ⊥) → (Refuses B error Invalid → C) → C
 invalid error fault is why long twice then =
     then (ap Err (only_invalid error (sym is ∙ ap reason_of why) (λ same. long (ap Err same)) (λ same. twice (ap Err same))))
 
-pub same_reason : {A B : Type 0} (fault : NotListed) → Fails A fault NoJson → Fails B fault NoJson
+pub same_reason : {A B : Type 0} (fault : ListingError) → Fails A fault NoJson → Fails B fault NoJson
 same_reason fault why = ap Err (ap reason_of why)

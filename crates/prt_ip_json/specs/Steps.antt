@@ -5,8 +5,8 @@ use Rattle.json.specs.declared.error.Error.{Error}
 use Rattle.json.specs.declared.error.Error.TheVariants as errors
 use Rattle.prt_ip_json.specs.Documents.{document_of, is_blank}
 use Rattle.prt_ip_json.specs.Listing.{document_lines}
-use Rattle.prt_ip_json.specs.declared.fault.NotListed.{NotListed}
-use Rattle.prt_ip_json.specs.declared.fault.NotListed.TheVariants.{NoJson, NoMemory}
+use Rattle.prt_ip_json.specs.declared.fault.ListingError.{ListingError}
+use Rattle.prt_ip_json.specs.declared.fault.ListingError.TheVariants.{NoJson, NoMemory}
 
 -- something was read before these tokens, and its text was appended
 abbrev pub Appends : {A : Type 0} → Option (A × List Token) → List Token → (A → List ℕ) → List ℕ → List ℕ → Type 0
@@ -21,7 +21,7 @@ abbrev pub part_lines : List ℕ → Option (List ℕ)
 part_lines part = if is_blank part then Some [] else option_map document_lines (document_of part)
 
 -- why no value was read
-abbrev pub reason : Error → NotListed
+abbrev pub reason : Error → ListingError
 reason errors.OutOfMemory = NoMemory
 reason errors.Invalid = NoJson
 reason errors.TooLong = NoJson

@@ -7,7 +7,7 @@ use thiserror::Error;
 
 /// Why a text yields no lines.
 #[derive(Clone, Copy, Debug, Error, PartialEq, Eq)]
-pub enum NotListed {
+pub enum ListingError {
     /// It is no sequence of JSON documents, or nests deeper than 128 arrays and objects.
     #[error("this is neither a listing nor the JSON of `ip -j`")]
     NoJson,
@@ -16,25 +16,25 @@ pub enum NotListed {
     NoMemory,
 }
 
-impl From<AllocError> for NotListed {
+impl From<AllocError> for ListingError {
     ghost use Rattle.std.specs.Prelude.{◌≡◌};
-    ghost use Rattle.prt_ip_json.specs.declared.fault.NotListed.TheVariants.{NoMemory};
+    ghost use Rattle.prt_ip_json.specs.declared.fault.ListingError.TheVariants.{NoMemory};
 
     ghost from_gives = { λ _ fault. fault ≡ NoMemory };
 
-    fn from(_: AllocError) -> NotListed {
-        NotListed::NoMemory
+    fn from(_: AllocError) -> ListingError {
+        ListingError::NoMemory
     }
 }
 
 /// Finds why, by the reason for which no value was read.
-pub(crate) fn not_listed(error: json::Error) -> NotListed
+pub(crate) fn not_listed(error: json::Error) -> ListingError
     ensures { result ≡ reason error }
 {
     match error {
-        json::Error::OutOfMemory => NotListed::NoMemory,
+        json::Error::OutOfMemory => ListingError::NoMemory,
         json::Error::Invalid | json::Error::TooLong | json::Error::DuplicateKey => {
-            NotListed::NoJson
+            ListingError::NoJson
         }
     }
 }

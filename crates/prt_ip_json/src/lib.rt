@@ -10,5 +10,5 @@ mod naming;
 mod reading;
 mod words;
 
-pub use fault::NotListed;
+pub use fault::ListingError;
 pub use listing::{is_json, listing_of};

@@ -7,7 +7,7 @@ ghost use Rattle.prt_ip_json.specs.Listing.{listing};
 ghost use Rattle.prt_ip_json.specs.Steps.{appended, part_lines};
 
 use crate::cut::{next_part, opens};
-use crate::fault::NotListed;
+use crate::fault::ListingError;
 use crate::reading::push_document_lines;
 use json::Scratch;
 use std::alloc::Global;
@@ -46,16 +46,16 @@ fn push_part(
     alloc: Global,
     part: &[u8],
     scratch: &mut Scratch,
-) -> Result<(), NotListed>
+) -> Result<(), ListingError>
     ensures ok { OnOk result (appended out.old.items (part_lines part.now) ≡ Some out.new.items) }
-    ensures no_json { result ≡ Err NotListed.NoJson → part_lines part.now ≡ None }
+    ensures no_json { result ≡ Err ListingError.NoJson → part_lines part.now ≡ None }
 {
     if is_blank(part) {
         return Ok(());
     }
     match std::str::from_utf8(part) {
         Ok(text) => push_document_lines(out, alloc, text, scratch),
-        Err(_) => Err(NotListed::NoJson),
+        Err(_) => Err(ListingError::NoJson),
     }
 }
 
@@ -73,9 +73,9 @@ fn push_part(
 /// # Errors
 ///
 /// `NoJson`, `NoMemory`.
-pub fn listing_of(alloc: Global, text: &[u8]) -> Result<Vec<u8>, NotListed>
+pub fn listing_of(alloc: Global, text: &[u8]) -> Result<Vec<u8>, ListingError>
     ensures ok { IfOk result (λ lines. option_map listing (documents text.now) ≡ Some lines.items) }
-    ensures no_json { result ≡ Err NotListed.NoJson → documents text.now ≡ None }
+    ensures no_json { result ≡ Err ListingError.NoJson → documents text.now ≡ None }
 {
     let mut scratch = Scratch::new(alloc);
     let mut lines = Vec::new(alloc);

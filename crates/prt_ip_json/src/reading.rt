@@ -7,7 +7,7 @@ ghost use Rattle.json.specs.Value.{members_view};
 ghost use Rattle.prt_ip_json.specs.Listing.{document_lines, line, lines};
 ghost use Rattle.prt_ip_json.specs.Steps.{Appends, appended};
 
-use crate::fault::{NotListed, not_listed};
+use crate::fault::{ListingError, not_listed};
 use crate::line::push_line;
 use crate::words::{UNSAID_LINE, push_text};
 use json::{MAX_DEPTH, Reader, Scratch, Token, Value};
@@ -18,9 +18,9 @@ fn push_next_line(
     out: &mut Vec<u8>,
     alloc: Global,
     reader: &mut Reader<'_>,
-) -> Result<(), NotListed>
+) -> Result<(), ListingError>
     ensures ok { OnOk result (Appends (value 127 reader.old) reader.new line out.old.items out.new.items) }
-    ensures no_json { result ≡ Err NotListed.NoJson → value 127 reader.old ≡ None }
+    ensures no_json { result ≡ Err ListingError.NoJson → value 127 reader.old ≡ None }
     ensures shorter { OnOk result (length reader.new < length reader.old) }
 {
     match Value::read(alloc, reader, MAX_DEPTH - 1) {
@@ -31,9 +31,9 @@ fn push_next_line(
 }
 
 /// Appends the line of each value of an array whose opening bracket was taken.
-fn push_lines(out: &mut Vec<u8>, alloc: Global, reader: &mut Reader<'_>) -> Result<(), NotListed>
+fn push_lines(out: &mut Vec<u8>, alloc: Global, reader: &mut Reader<'_>) -> Result<(), ListingError>
     ensures ok { OnOk result (Appends (items (value 127) (length reader.old) reader.old) reader.new lines out.old.items out.new.items) }
-    ensures no_json { result ≡ Err NotListed.NoJson → items (value 127) (length reader.old) reader.old ≡ None }
+    ensures no_json { result ≡ Err ListingError.NoJson → items (value 127) (length reader.old) reader.old ≡ None }
     ensures shorter { OnOk result (length reader.new < length reader.old) }
 {
     while !reader.take_end_array() {
@@ -43,13 +43,13 @@ fn push_lines(out: &mut Vec<u8>, alloc: Global, reader: &mut Reader<'_>) -> Resu
 }
 
 /// Takes the name of the next member, if the closing brace is not next.
-fn next_name<'a>(reader: &mut Reader<'a>) -> Result<Option<&'a str>, NotListed>
+fn next_name<'a>(reader: &mut Reader<'a>) -> Result<Option<&'a str>, ListingError>
     ensures ok { IfOk result (λ name. read_key reader.old ≡ Some (option_map (λ s. s.now) name, reader.new)) }
-    ensures err { IfErr result (λ fault. (fault ≡ NotListed.NoJson) × (read_key reader.old ≡ None)) }
+    ensures err { IfErr result (λ fault. (fault ≡ ListingError.NoJson) × (read_key reader.old ≡ None)) }
 {
     match reader.next_key() {
         Ok(name) => Ok(name),
-        Err(_) => Err(NotListed::NoJson),
+        Err(_) => Err(ListingError::NoJson),
     }
 }
 
@@ -57,9 +57,9 @@ fn next_name<'a>(reader: &mut Reader<'a>) -> Result<Option<&'a str>, NotListed>
 fn read_members<'a>(
     alloc: Global,
     reader: &mut Reader<'a>,
-) -> Result<Vec<(&'a str, Value<'a>)>, NotListed>
+) -> Result<Vec<(&'a str, Value<'a>)>, ListingError>
     ensures ok { IfOk result (λ read. members (value 127) (length reader.old) reader.old ≡ Some (members_view read.items, reader.new)) }
-    ensures no_json { result ≡ Err NotListed.NoJson → members (value 127) (length reader.old) reader.old ≡ None }
+    ensures no_json { result ≡ Err ListingError.NoJson → members (value 127) (length reader.old) reader.old ≡ None }
     ensures shorter { OnOk result (length reader.new < length reader.old) }
 {
     let mut read = Vec::new(alloc);
@@ -69,16 +69,20 @@ fn read_members<'a>(
             Err(error) => return Err(not_listed(error)),
         };
         if read.push(member).is_err() {
-            return Err(NotListed::NoMemory);
+            return Err(ListingError::NoMemory);
         }
     }
     Ok(read)
 }
 
 /// Appends the line of an object whose opening brace was taken.
-fn push_one_line(out: &mut Vec<u8>, alloc: Global, reader: &mut Reader<'_>) -> Result<(), NotListed>
+fn push_one_line(
+    out: &mut Vec<u8>,
+    alloc: Global,
+    reader: &mut Reader<'_>,
+) -> Result<(), ListingError>
     ensures ok { OnOk result (Appends (value 128 (begin_object ∷ reader.old)) reader.new document_lines out.old.items out.new.items) }
-    ensures no_json { result ≡ Err NotListed.NoJson → value 128 (begin_object ∷ reader.old) ≡ None }
+    ensures no_json { result ≡ Err ListingError.NoJson → value 128 (begin_object ∷ reader.old) ≡ None }
 {
     let value = match read_members(alloc, reader) {
         Ok(members) => Value::Object(members),
@@ -94,9 +98,9 @@ fn push_document(
     alloc: Global,
     reader: &mut Reader<'_>,
     first: &Token<'_>,
-) -> Result<(), NotListed>
+) -> Result<(), ListingError>
     ensures ok { OnOk result (Appends (value max_depth (token_of first.now ∷ reader.old)) reader.new document_lines out.old.items out.new.items) }
-    ensures no_json { result ≡ Err NotListed.NoJson → value max_depth (token_of first.now ∷ reader.old) ≡ None }
+    ensures no_json { result ≡ Err ListingError.NoJson → value max_depth (token_of first.now ∷ reader.old) ≡ None }
 {
     match first {
         Token::BeginArray => push_lines(out, alloc, reader),
@@ -105,7 +109,9 @@ fn push_document(
             push_text(out, UNSAID_LINE)?;
             Ok(())
         }
-        Token::EndObject | Token::EndArray | Token::Key(_) | Token::Bad => Err(NotListed::NoJson),
+        Token::EndObject | Token::EndArray | Token::Key(_) | Token::Bad => Err(
+            ListingError::NoJson,
+        ),
     }
 }
 
@@ -119,17 +125,17 @@ pub(crate) fn push_document_lines<'a>(
     alloc: Global,
     text: &'a str,
     scratch: &'a mut Scratch,
-) -> Result<(), NotListed>
+) -> Result<(), ListingError>
     ensures ok { OnOk result (appended out.old.items (option_map document_lines (document text.now)) ≡ Some out.new.items) }
-    ensures no_json { result ≡ Err NotListed.NoJson → document text.now ≡ None }
+    ensures no_json { result ≡ Err ListingError.NoJson → document text.now ≡ None }
 {
     let mut reader = Reader::new(text, scratch)?;
     let Some(first) = reader.next() else {
-        return Err(NotListed::NoJson);
+        return Err(ListingError::NoJson);
     };
     push_document(out, alloc, &mut reader, &first)?;
     if reader.next().is_some() {
-        return Err(NotListed::NoJson);
+        return Err(ListingError::NoJson);
     }
     Ok(())
 }

@@ -17,7 +17,7 @@ use Rattle.prt_laws.proofs.Keeping.{most_keep, Keeps, unless_keeps}
 use Rattle.std.proofs.lemmas.List.{append-nil}
 use Rattle.prt_refusals.specs.declared.refusal.StoreCall.{StoreCall}
 use Rattle.prt_command.specs.declared.request.Command.{Command}
-use Rattle.prt_front.specs.Line.{Line, line_state}
+use Rattle.prt_published.specs.Line.{Line, line_state}
 use Rattle.prt_world.specs.declared.event.Fate.{Fate}
 use Rattle.prt_laws.specs.Events.{AsksSome, acks_to, commit_events, fail_events, is_lookers, own, stop_events}
 use Rattle.prt_laws.specs.Spots.{IsAt}

@@ -5,7 +5,7 @@ use Rattle.std.proofs.lemmas.Bool.Decides.{nat_tests}
 use Rattle.std.proofs.lemmas.List.{append-nil}
 use Rattle.std.proofs.lemmas.List.Elements.{filter-append}
 use Rattle.prt_command.specs.declared.request.Command.{Command}
-use Rattle.prt_front.specs.Line.{Line}
+use Rattle.prt_published.specs.Line.{Line}
 use Rattle.prt_grace.specs.GracePeriod.{is_retired}
 use Rattle.prt_grace.specs.declared.limits.TheConstants.{MOST_RETIRED}
 use Rattle.prt_rule.specs.declared.packet.Packet.{Packet}

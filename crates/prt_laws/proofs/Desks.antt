@@ -7,7 +7,7 @@ use Rattle.prt_refusals.specs.declared.refusal.Refusal.TheVariants as refusals
 use Rattle.prt_refusals.specs.declared.refusal.StoreCall.{StoreCall}
 use Rattle.prt_refusals.specs.declared.refusal.StoreCall.TheVariants as calls
 use Rattle.prt_command.specs.declared.request.Command.{Command}
-use Rattle.prt_front.specs.Line.{Line, grown_by, line_state}
+use Rattle.prt_published.specs.Line.{Line, grown_by, line_state}
 use Rattle.prt_session.specs.Desk.{DeskState, ListTurn, Mishap, command_or_refusal, commands_or_refusal, commit_kept, no_memory, no_room, publication_fails, settled, shut, store_fails, submit, submit_all}
 use Rattle.prt_session.specs.Session.{Turn}
 use Rattle.prt_session.specs.Steps.{reply_of}

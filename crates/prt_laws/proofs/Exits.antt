@@ -7,7 +7,7 @@ use Rattle.prt_refusals.specs.declared.refusal.Refusal.TheVariants as refusals
 use Rattle.prt_refusals.specs.declared.refusal.StoreCall.{StoreCall}
 use Rattle.prt_refusals.specs.declared.refusal.StoreCall.TheVariants as calls
 use Rattle.prt_command.specs.declared.request.Command.{Command}
-use Rattle.prt_front.specs.Line.{Line, grown_by, line_state}
+use Rattle.prt_published.specs.Line.{Line, grown_by, line_state}
 use Rattle.prt_store.specs.Exits.{IsKnown, IsStored, MayLeave}
 use Rattle.prt_publisher.specs.Standing.{Standing, Stands}
 use Rattle.prt_publisher.specs.declared.phase.Phase.{Phase}

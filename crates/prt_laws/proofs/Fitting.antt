@@ -21,7 +21,7 @@ use Rattle.sqlite.specs.Held.{Held, state}
 use Rattle.sqlite.specs.Store.{Ghosts}
 use Rattle.sqlite.specs.Tree.{Trees}
 use Rattle.prt_refusals.specs.declared.refusal.Refusal.TheVariants.{StoreFailed}
-use Rattle.prt_front.specs.Line.{line_state}
+use Rattle.prt_published.specs.Line.{line_state}
 use Rattle.prt_store.specs.Exits.{IsKnown, IsStored, MayLeave, Spells}
 use Rattle.prt_publisher.specs.Standing.{Agrees, Standing}
 use Rattle.prt_publisher.specs.declared.phase.Phase.{Phase}

@@ -6,7 +6,7 @@ use Rattle.sqlite.specs.Store.{Ghosts}
 use Rattle.prt_refusals.specs.declared.refusal.StoreCall.{StoreCall}
 use Rattle.prt_refusals.specs.declared.refusal.StoreCall.TheVariants as calls
 use Rattle.prt_command.specs.declared.request.Command.{Command}
-use Rattle.prt_front.specs.Line.{Line, line_state}
+use Rattle.prt_published.specs.Line.{Line, line_state}
 use Rattle.prt_store.proofs.Accepted.{are_made, are_next}
 use Rattle.prt_store.specs.Exits.{IsKnown, IsStored, MayLeave, Spells}
 use Rattle.prt_publisher.specs.Standing.{Agrees, Standing, Stands}

@@ -3,7 +3,7 @@ use Rattle.std.proofs.Common.{◌≡◌, ◌≢◌, ℕ, ◌<◌, Bool, true, fa
 use Rattle.std.specs.Prelude.{◌==◌, IfSome}
 use Rattle.std.proofs.lemmas.Bool.Decides.{nat_tests}
 use Rattle.std.proofs.lemmas.List.{get_or-set_other, length-set, append_assoc, length-take-le, take-append-le, take-take, take_all}
-use Rattle.prt_front.specs.Line.{Line, Begins, line_state}
+use Rattle.prt_published.specs.Line.{Line, Begins, line_state}
 use Rattle.prt_rule.specs.declared.packet.Packet.{Packet}
 use Rattle.prt_service.specs.Look.{Look}
 use Rattle.prt_world.specs.World as world

@@ -5,7 +5,7 @@ use Rattle.std.specs.List.{AllByRecursion as Each}
 use Rattle.std.proofs.lemmas.List.{append-nil, append_assoc, map-set}
 use Rattle.std.proofs.lemmas.List.Elements.{filter-append}
 use Rattle.prt_addr.proofs.Each.{each_append, each_filtered, each_implies}
-use Rattle.prt_front.specs.Line.{Line, line_state}
+use Rattle.prt_published.specs.Line.{Line, line_state}
 use Rattle.prt_grace.specs.GracePeriod.{after_reclaim, is_retired}
 use Rattle.prt_grace.specs.Registry.{RegistryState, announced, new_registry, noted_by, reclaimed, with_noted, with_place}
 use Rattle.prt_grace.specs.declared.limits.TheConstants.{MOST_RETIRED, PLACES}

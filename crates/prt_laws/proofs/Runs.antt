@@ -18,7 +18,7 @@ use Rattle.prt_world.specs.World.{Ack, Lookup, World, looker_state, run_from, st
 use Rattle.prt_world.specs.declared.event.Event.{Event}
 use Rattle.prt_world.specs.declared.event.Event.TheVariants as events
 use Rattle.prt_world.specs.declared.event.Fate.TheVariants.{Lost}
-use Rattle.prt_front.specs.Line.{grown_by, line_state}
+use Rattle.prt_published.specs.Line.{grown_by, line_state}
 use Rattle.prt_grace.specs.Registry.{RegistryState, new_registry}
 use Rattle.prt_grace.specs.declared.place.PlaceState.TheVariants.{Free}
 use Rattle.sqlite.specs.Tree.{Trees}

@@ -13,7 +13,7 @@ use Rattle.prt_command.specs.declared.request.Query.{Query}
 use Rattle.prt_command.specs.declared.request.Query.TheVariants.{Get, RouteShow, RuleShow}
 use Rattle.prt_command.specs.declared.request.Request.{Request}
 use Rattle.prt_command.specs.declared.request.Request.TheVariants as requests
-use Rattle.prt_front.specs.Line.{Line}
+use Rattle.prt_published.specs.Line.{Line}
 use Rattle.prt_grace.specs.GracePeriod.{is_retired, may_hold}
 use Rattle.prt_grace.specs.declared.limits.TheConstants.{MOST_RETIRED, PLACES}
 use Rattle.prt_listing.specs.AnswerText.{answer_text}

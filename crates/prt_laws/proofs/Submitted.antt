@@ -5,7 +5,7 @@ use Rattle.sqlite.specs.Store.{Ghosts}
 use Rattle.prt_refusals.specs.declared.refusal.Refusal.{Refusal}
 use Rattle.prt_refusals.specs.declared.refusal.Refusal.TheVariants as refusals
 use Rattle.prt_command.specs.declared.request.Command.{Command}
-use Rattle.prt_front.specs.Line.{Line, grown_by, line_state}
+use Rattle.prt_published.specs.Line.{Line, grown_by, line_state}
 use Rattle.prt_publisher.proofs.Lists.{state_grown}
 use Rattle.prt_publisher.specs.Exits.{AreNotAcknowledged, AreNotChecked, AreNotPrepared, AreNotPublished, AreNotStored, TakesAll}
 use Rattle.prt_publisher.specs.Standing.{Agrees, IsQuiet, Standing, Stands}

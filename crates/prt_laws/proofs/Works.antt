@@ -14,7 +14,7 @@ use Rattle.prt_session.specs.Session.{Exchange, LineMay, MayOn, Turn, line_turn,
 use Rattle.prt_replies.specs.declared.reply.Reply.{Reply}
 use Rattle.prt_version.specs.Change.{apply, refusal}
 use Rattle.prt_version.specs.State.{State, opening_state}
-use Rattle.prt_words.specs.declared.task.Mode.TheVariants.{InTurn, Together}
+use Rattle.prt_args.specs.declared.task.Mode.TheVariants.{InTurn, Together}
 use Rattle.prt_laws.specs.Desks.{Does, Exchanges, Sessions, accepted_in, request_acks}
 use Rattle.prt_laws.specs.Works.{FileEnds, Follow, Ran, RefusedFileDoesNothing, RunIsWork, RunsHold, StopIsWork, cut_short, work_of, works_of}
 use Rattle.prt_laws.proofs.Files.{sessions_hold}

@@ -8,7 +8,7 @@ use Rattle.prt_refusals.specs.declared.refusal.Refusal.TheVariants.{Busy, NoMemo
 use Rattle.prt_refusals.specs.declared.refusal.StoreCall.{StoreCall}
 use Rattle.prt_command.specs.Storable.{IsStorable}
 use Rattle.prt_command.specs.declared.request.Command.{Command}
-use Rattle.prt_front.specs.Line.{Line, line_state}
+use Rattle.prt_published.specs.Line.{Line, line_state}
 use Rattle.prt_grace.specs.Registry.{RegistryState, new_registry}
 use Rattle.prt_publisher.specs.Standing.{Standing, Stands}
 use Rattle.prt_publisher.specs.declared.phase.Phase.TheVariants.{Ready, Admitted, Prepared, Committed, Published, Closed}

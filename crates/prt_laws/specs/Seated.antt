@@ -1,7 +1,7 @@
 -- Where a looker of a service is in a world, and what its calls are there.
 use Rattle.std.specs.Prelude.{◌≡◌, ◌<◌, ℕ, ◌==◌, Bool, true, false, not, List, length, Option, None, Some, IfSome}
 use Rattle.std.specs.List.{AllByRecursion as Each}
-use Rattle.prt_front.specs.Line.{Begins, Line, line_state}
+use Rattle.prt_published.specs.Line.{Begins, Line, line_state}
 use Rattle.prt_rule.specs.declared.packet.Packet.{Packet}
 use Rattle.prt_service.specs.Look.{Look}
 use Rattle.prt_version.specs.declared.answer.Answer.{Answer}

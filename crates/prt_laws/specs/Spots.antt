@@ -1,7 +1,7 @@
 -- Worlds that some list of events leads to, by how far they are with commands.
 use Rattle.std.specs.Prelude.{◌≡◌, ℕ, ◌≤◌, ◌++◌, take, true, List}
 use Rattle.prt_command.specs.declared.request.Command.{Command}
-use Rattle.prt_front.specs.Line.{Line, line_state}
+use Rattle.prt_published.specs.Line.{Line, line_state}
 use Rattle.prt_version.specs.State.{State}
 use Rattle.prt_world.specs.Durability.{state_after}
 use Rattle.prt_world.specs.World as world

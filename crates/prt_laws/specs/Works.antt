@@ -16,8 +16,8 @@ use Rattle.prt_replies.specs.declared.reply.Reply.TheVariants.{Refused}
 use Rattle.prt_replies.specs.declared.script_end.ScriptEnd.{ScriptEnd}
 use Rattle.prt_version.specs.Change.{apply, refusal}
 use Rattle.prt_version.specs.State.{State, opening_state}
-use Rattle.prt_words.specs.declared.task.Mode.{Mode}
-use Rattle.prt_words.specs.declared.task.Mode.TheVariants.{InTurn, Together}
+use Rattle.prt_args.specs.declared.task.Mode.{Mode}
+use Rattle.prt_args.specs.declared.task.Mode.TheVariants.{InTurn, Together}
 use Rattle.prt_world.specs.Durability.{IsAnswered}
 use Rattle.prt_world.specs.World.{World}
 use Rattle.prt_laws.specs.Desks.{Does, Exchanges, Work, WorkTells, accepted_by, accepted_in, file, reading_refused, script}

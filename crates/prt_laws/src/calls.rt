@@ -3,7 +3,7 @@ ghost use Rattle.std.specs.Prelude.{◌≡◌, ◌≤◌, [], ◌∷◌, All, le
 ghost use Rattle.sqlite.specs.Held.{state};
 ghost use Rattle.sqlite.specs.State.{HasCleanDisk};
 ghost use Rattle.prt_command.specs.Storable.{IsStorable};
-ghost use Rattle.prt_front.specs.Line.{line_state};
+ghost use Rattle.prt_published.specs.Line.{line_state};
 ghost use Rattle.prt_grace.specs.Registry.{new_registry};
 ghost use Rattle.prt_publisher.specs.Standing.{IsQuiet};
 ghost use Rattle.prt_publisher.specs.Step.{AreChecked, commands_checked};

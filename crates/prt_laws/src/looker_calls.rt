@@ -3,7 +3,7 @@ ghost use Rattle.std.specs.Prelude.{◌≡◌, IfOk, IsSome, OnErr, OnOk};
 ghost use Rattle.prt_laws.specs.Seated.{IsMade, Learns, Looks, Refreshes, RefreshesNot, Rests};
 
 use prt_publisher::Receipt;
-use prt_service::{Looker, Naming, Service};
+use prt_service::{Looker, Service, ServiceBrand};
 use prt_version::{Answer, Packet, Refusal};
 use sqlite::Alter;
 use std::sync::Wait;
@@ -13,7 +13,7 @@ use std::sync::Wait;
 /// # Errors
 ///
 /// `Full`.
-pub fn looker<S: Alter + Drop, J: Naming, W: Wait>(
+pub fn looker<S: Alter + Drop, J: ServiceBrand, W: Wait>(
     rt: &W,
     service: &Service<S, J>,
 ) -> Result<Looker, Refusal>
@@ -38,7 +38,7 @@ pub fn learn(looker: &mut Looker, receipt: Receipt)
 /// # Errors
 ///
 /// `NotFetched`: the looker is as it was.
-pub fn refresh<S: Alter + Drop, J: Naming, W: Wait>(
+pub fn refresh<S: Alter + Drop, J: ServiceBrand, W: Wait>(
     looker: &mut Looker,
     rt: &W,
     service: &Service<S, J>,
@@ -53,7 +53,7 @@ pub fn refresh<S: Alter + Drop, J: Naming, W: Wait>(
 }
 
 /// Releases its version, and takes the looker offline.
-pub fn rest<S: Alter + Drop, J: Naming, W: Wait>(
+pub fn rest<S: Alter + Drop, J: ServiceBrand, W: Wait>(
     looker: &mut Looker,
     rt: &W,
     service: &Service<S, J>,

@@ -4,12 +4,12 @@ use Rattle.std.specs.Prelude.{OnErr}
 use Rattle.prt_addr.specs.Word.{Word}
 use Rattle.prt_refusals.specs.declared.refusal.Refusal.{Refusal}
 use Rattle.prt_program.specs.Faults.{IsDatabaseFault, IsFault, IsOpening, database_of}
-use Rattle.prt_words.proofs.WordsRead.{either_status}
-use Rattle.prt_words.specs.Faults.{IsStatusOf, fault_status}
-use Rattle.prt_words.specs.Invocation.{Invocation, batch, check, replay}
+use Rattle.prt_args.proofs.WordsRead.{either_status}
+use Rattle.prt_args.specs.Faults.{IsStatusOf, fault_status}
+use Rattle.prt_args.specs.Invocation.{Invocation, batch, check, replay}
 use Rattle.prt_program.specs.Program.{IsUntouched, LeavesInput, LeavesInputFor, RunsNothing}
-use Rattle.prt_words.specs.declared.fault.Fault.{Fault}
-use Rattle.prt_words.specs.declared.fault.Fault.TheVariants.{Words, Opening, Listener}
+use Rattle.prt_args.specs.declared.fault.Fault.{Fault}
+use Rattle.prt_args.specs.declared.fault.Fault.TheVariants.{Words, Opening, Listener}
 
 module _ {D : Type 0} (refuses : D → D → Word → Refusal → Type 0) (old new : D) where
   pub untouched : (path : Option Word) → new ≡ old → IsUntouched refuses path old new

@@ -6,7 +6,7 @@ use Rattle.prt_session.specs.Open.{IsOpenOn}
 use Rattle.prt_session.specs.Stands.{Explained, StandsForSome}
 use Rattle.prt_replies.specs.declared.script_end.ScriptEnd.{ScriptEnd}
 use Rattle.prt_version.specs.State.{State, opening_state}
-use Rattle.prt_words.specs.declared.task.Mode.{Mode}
+use Rattle.prt_args.specs.declared.task.Mode.{Mode}
 
 -- what was run over a desk that stood for one state alone
 pub runs_on : {X : Type 0} (stands : X → DeskState → Type 0) (may : Mishap → Type 0) (mode : Mode) (opened : State) (old new : X) (reader0 reader writer0 writer : Option (List ℕ)) (end : ScriptEnd) (status : ℕ)

@@ -4,10 +4,10 @@ use Rattle.prt_refusals.specs.Opening.{IsOpenRefusal}
 use Rattle.prt_addr.specs.Word.{Word}
 use Rattle.prt_refusals.specs.declared.refusal.Refusal.{Refusal}
 use Rattle.prt_refusals.specs.declared.refusal.Refusal.TheVariants.{NoMemory, ReadFault}
-use Rattle.prt_words.specs.Faults.{IsStatusOf, fault_status}
-use Rattle.prt_words.specs.Invocation.{Invocation, batch}
-use Rattle.prt_words.specs.declared.fault.Fault.{Fault}
-use Rattle.prt_words.specs.declared.fault.Fault.TheVariants.{Words, Opening, Listener}
+use Rattle.prt_args.specs.Faults.{IsStatusOf, fault_status}
+use Rattle.prt_args.specs.Invocation.{Invocation, batch}
+use Rattle.prt_args.specs.declared.fault.Fault.{Fault}
+use Rattle.prt_args.specs.declared.fault.Fault.TheVariants.{Words, Opening, Listener}
 
 -- the database at this path, or a new one in memory, could not be opened
 abbrev pub IsDatabaseFault : Option Word → Refusal → Type 0

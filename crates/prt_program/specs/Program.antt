@@ -4,8 +4,8 @@ use Rattle.prt_addr.specs.Word.{Word}
 use Rattle.prt_refusals.specs.declared.refusal.Refusal.{Refusal}
 use Rattle.prt_program.specs.Databases.{OpensAndCloses}
 use Rattle.prt_program.specs.Faults.{database_of}
-use Rattle.prt_words.specs.Faults.{IsStatusOf}
-use Rattle.prt_words.specs.Invocation.{Invocation, batch, check, replay}
+use Rattle.prt_args.specs.Faults.{IsStatusOf}
+use Rattle.prt_args.specs.Invocation.{Invocation, batch, check, replay}
 use Rattle.prt_replay.specs.Replay.{ReplayIs}
 use Rattle.prt_session.specs.Atomic.{AtomicIs}
 use Rattle.prt_session.specs.Check.{ChecksLines}
@@ -17,11 +17,11 @@ use Rattle.prt_version.specs.State.{State, opening_state}
 use Rattle.prt_program.specs.declared.next.Next.{Next}
 use Rattle.prt_program.specs.declared.next.Next.TheVariants.{Ask, Exit, Serve, Submit}
 use Rattle.prt_replies.specs.declared.script_end.ScriptEnd.{ScriptEnd}
-use Rattle.prt_words.specs.declared.asking.Asked.{Asked}
-use Rattle.prt_words.specs.declared.serving.Serving.{Serving}
-use Rattle.prt_words.specs.declared.task.Submitting.{Submitting}
-use Rattle.prt_words.specs.declared.task.Mode.{Mode}
-use Rattle.prt_words.specs.declared.task.Mode.TheVariants.{InTurn, Together}
+use Rattle.prt_args.specs.declared.asking.Asked.{Asked}
+use Rattle.prt_args.specs.declared.serving.ServeArgs.{ServeArgs}
+use Rattle.prt_args.specs.declared.task.Submitting.{Submitting}
+use Rattle.prt_args.specs.declared.task.Mode.{Mode}
+use Rattle.prt_args.specs.declared.task.Mode.TheVariants.{InTurn, Together}
 
 -- 3 for a fault, else 1 for a refused line, else 0
 abbrev pub status_by : Option Refusal → Bool → ℕ
@@ -151,7 +151,7 @@ IfExit holds (Submit submitting) = Unit {0}
 IfExit holds (Ask asked) = Unit {0}
 
 -- of the sessions that are to be served, if they are asked for
-abbrev pub IfServe : (Serving → Type 0) → Next → Type 0
+abbrev pub IfServe : (ServeArgs → Type 0) → Next → Type 0
 IfServe holds (Exit status) = Unit {0}
 IfServe holds (Serve serving) = holds serving
 IfServe holds (Submit submitting) = Unit {0}

@@ -45,7 +45,7 @@ impl<F: ReadFiles, D: Databases, W: Write + IsTerminal, E: Write + Drop, K: Cloc
 
 /// What surrounds a run: memory, files, databases and the writer of replies.
 #[derive(Drop)]
-pub(crate) struct Surroundings<'f, 's, H: Host> {
+pub(crate) struct RunContext<'f, 's, H: Host> {
     pub(crate) alloc: Global,
     pub(crate) files: &'f H::Files,
     pub(crate) databases: &'s mut H::Databases,

@@ -2,13 +2,13 @@
 ghost use Rattle.std.specs.Prelude.{◌≡◌, ◌≢◌, ◌<◌, ◌∷◌, IfOk, IfSome, List, Some, codes, map, option_map, string_bytes, ℕ};
 ghost use Rattle.prt_command.specs.Reading.{words};
 ghost use Rattle.prt_program.specs.Messages.{blame, complaint, failed_call, lines_text, location, progress_message, question_message, quoted, refused_message, shown, told_word, total_message};
-ghost use Rattle.prt_words.specs.Faults.{fault_status};
+ghost use Rattle.prt_args.specs.Faults.{fault_status};
 
-use crate::noting::Noting;
+use crate::error_keeping::ErrorKeeping;
+use prt_args::{DONE, Fault, report};
 use prt_command::{fault_word, is, next_word};
 use prt_replay::call_name;
 use prt_session::{Observer, Refusal, Reply, ScriptEnd};
-use prt_words::{DONE, Fault, report};
 use std::alloc::{AllocError, Global};
 use std::fmt::Display;
 use std::io::{IsTerminal, Write};
@@ -217,7 +217,7 @@ pub fn log_message<D: Display>(
 
 /// What is reported of a run.
 #[derive(Clone, Copy)]
-enum Telling {
+enum Verbosity {
     /// Nothing.
     Off,
     /// Messages.
@@ -243,7 +243,7 @@ pub struct Messages<'a, E: Write + Drop, K: Clock + Drop> {
     alloc: Global,
     errors: E,
     clock: K,
-    telling: Telling,
+    verbosity: Verbosity,
     /// The message of why a file could not be opened.
     cause: Option<String>,
     /// The name of the script.
@@ -264,7 +264,7 @@ impl<'a, E: Write + Drop, K: Clock + Drop> Messages<'a, E, K> {
             alloc,
             errors,
             clock,
-            telling: Telling::Off,
+            verbosity: Verbosity::Off,
             cause: None,
             file: "",
             language: Language::Commands,
@@ -278,13 +278,13 @@ impl<'a, E: Write + Drop, K: Clock + Drop> Messages<'a, E, K> {
     /// Starts reporting what follows.
     pub fn turn_on(&mut self) {
         if !self.is_on() {
-            self.telling = Telling::On;
+            self.verbosity = Verbosity::On;
         }
     }
 
     /// Returns whether it is turned on.
     fn is_on(&self) -> bool {
-        !matches!(self.telling, Telling::Off)
+        !matches!(self.verbosity, Verbosity::Off)
     }
 
     /// Begins to look on at a run of the script of this name, whose replies go to `output`.
@@ -326,7 +326,7 @@ impl<'a, E: Write + Drop, K: Clock + Drop> Messages<'a, E, K> {
     }
 
     /// Reports why a file could not be read to its end, if it failed.
-    pub fn tell_failure<S>(&mut self, file: &str, stream: &Noting<S>) {
+    pub fn tell_failure<S>(&mut self, file: &str, stream: &ErrorKeeping<S>) {
         if let Some(error) = stream.error() {
             self.wipe();
             self.write(cause_message(self.alloc, &file, error));
@@ -364,9 +364,9 @@ impl<'a, E: Write + Drop, K: Clock + Drop> Messages<'a, E, K> {
 
     /// Takes the line of progress away.
     fn wipe(&mut self) {
-        if let Telling::ShowingProgress = self.telling {
+        if let Verbosity::ShowingProgress = self.verbosity {
             let _ = self.errors.write_all(BLANK.as_bytes());
-            self.telling = Telling::On;
+            self.verbosity = Verbosity::On;
         }
     }
 
@@ -402,7 +402,7 @@ impl<'a, E: Write + Drop, K: Clock + Drop> Messages<'a, E, K> {
         self.wipe();
         let rate = self.lines / seconds;
         self.write(progress_message(self.alloc, self.lines, rate));
-        self.telling = Telling::ShowingProgress;
+        self.verbosity = Verbosity::ShowingProgress;
     }
 
     /// Counts a refusal of commands that were to be made together, since that is reported of no line.

@@ -1,6 +1,6 @@
 //! What is left to do after the program.
 
-use prt_words::{Asked, Serving, Submitting};
+use prt_args::{Asked, ServeArgs, Submitting};
 
 /// What is left to do after the program.
 #[derive(Drop)]
@@ -8,7 +8,7 @@ pub enum Next<'a> {
     /// To end with this status.
     Exit(u8),
     /// To serve these sessions. Nothing was opened, read or written yet.
-    Serve(Serving<'a>),
+    Serve(ServeArgs<'a>),
     /// To have a server run this script. Nothing was opened, read or written yet.
     Submit(Submitting<'a>),
     /// To answer this question. Nothing was opened, read or written yet.

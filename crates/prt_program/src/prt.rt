@@ -9,23 +9,23 @@ ghost use Rattle.prt_program.specs.Program.{IfAsk, IfExit, IfServe, IfSubmit, Is
 ghost use Rattle.prt_session.specs.Open.{IsOpenOn};
 ghost use Rattle.prt_session.specs.Stands.{Explained, StandsForSome};
 ghost use Rattle.prt_version.specs.State.{State};
-ghost use Rattle.prt_words.specs.Read.{IsQuestionIn, IsServiceIn};
-ghost use Rattle.prt_words.specs.Tasks.{IsAskedFor, IsServing};
-ghost use Rattle.prt_words.specs.Invocation.{arguments, ask, invocation, serve};
-ghost use Rattle.prt_words.specs.declared.fault.Fault.TheVariants.{Opening};
-ghost use Rattle.prt_words.specs.declared.task.Task.TheVariants.{Submit};
+ghost use Rattle.prt_args.specs.Read.{IsQuestionIn, IsServiceIn};
+ghost use Rattle.prt_args.specs.Tasks.{IsAskedFor, IsServing};
+ghost use Rattle.prt_args.specs.Invocation.{arguments, ask, invocation, serve};
+ghost use Rattle.prt_args.specs.declared.fault.Fault.TheVariants.{Opening};
+ghost use Rattle.prt_args.specs.declared.task.Task.TheVariants.{Submit};
 
 use crate::databases::Databases;
-use crate::host::{Host, HostOf, Surroundings};
+use crate::error_keeping::ErrorKeeping;
+use crate::host::{Host, HostOf, RunContext};
 use crate::messages::Messages;
 use crate::next::Next;
-use crate::noting::Noting;
 use crate::read_files::ReadFiles;
+use prt_args::{Batch, DONE, FAULT, Fault, Mode, STANDARD_INPUT, Task, read_words};
 use prt_replay::run_replay;
 use prt_session::{
     Desk, MemoryDesk, Observer, Refusal, ScriptEnd, check_lines, run_atomic, run_script,
 };
-use prt_words::{Batch, DONE, FAULT, Fault, Mode, STANDARD_INPUT, Task, read_words};
 use std::alloc::Global;
 use std::io::{BufReader, IsTerminal, Read, Write};
 use std::rt::Clock;
@@ -122,7 +122,7 @@ pub fn buffered<R: Read + Drop>(alloc: Global, input: R) -> Result<BufReader<R>,
 
 /// Runs a script over the database that is asked for, and returns the exit status of the session.
 pub(crate) fn run_batch<H: Host, R: Read + Drop>(
-    around: &mut Surroundings<'_, '_, H>,
+    around: &mut RunContext<'_, '_, H>,
     database: Option<&str>,
     input: R,
     mode: Mode,
@@ -201,7 +201,7 @@ fn open_file<F: ReadFiles, E: Write + Drop, K: Clock + Drop>(
 
 /// Runs the script that is asked for, over its file or the input: a file that can't be opened leaves no new database.
 fn run_script_of<'a, H: Host, R: Read>(
-    around: &mut Surroundings<'_, '_, H>,
+    around: &mut RunContext<'_, '_, H>,
     batch: Batch<'a>,
     input: &mut R,
     messages: &mut Messages<'a, H::Errors, H::Clock>,
@@ -223,7 +223,7 @@ fn run_script_of<'a, H: Host, R: Read>(
     messages.begin(batch.file.unwrap_or(STANDARD_INPUT), &*around.output);
     let status = match batch.file {
         Some(path) => {
-            let mut file = Noting::new(open_file(around.files, path, messages)?);
+            let mut file = ErrorKeeping::new(open_file(around.files, path, messages)?);
             let status = run_batch(around, database, &mut file, mode, messages)?;
             messages.tell_failure(path, &file);
             status
@@ -236,7 +236,7 @@ fn run_script_of<'a, H: Host, R: Read>(
 
 /// Checks the script that is asked for, of a file or of the input.
 fn check_of<'a, H: Host, R: Read>(
-    around: &mut Surroundings<'_, '_, H>,
+    around: &mut RunContext<'_, '_, H>,
     path: Option<&'a str>,
     input: &mut R,
     messages: &mut Messages<'a, H::Errors, H::Clock>,
@@ -252,7 +252,7 @@ fn check_of<'a, H: Host, R: Read>(
     messages.begin(path.unwrap_or(STANDARD_INPUT), &*around.output);
     let status = match path {
         Some(path) => {
-            let mut script = Noting::new(open_file(around.files, path, messages)?);
+            let mut script = ErrorKeeping::new(open_file(around.files, path, messages)?);
             let status = check(around.alloc, &mut script, around.output, messages)?;
             messages.tell_failure(path, &script);
             status
@@ -265,7 +265,7 @@ fn check_of<'a, H: Host, R: Read>(
 
 /// Replays the events that are asked for, of a file or of the input.
 fn replay_of<'a, H: Host, R: Read>(
-    around: &mut Surroundings<'_, '_, H>,
+    around: &mut RunContext<'_, '_, H>,
     path: Option<&'a str>,
     input: &mut R,
     messages: &mut Messages<'a, H::Errors, H::Clock>,
@@ -281,7 +281,7 @@ fn replay_of<'a, H: Host, R: Read>(
     messages.begin_replay(path.unwrap_or(STANDARD_INPUT));
     match path {
         Some(path) => {
-            let mut events = Noting::new(open_file(around.files, path, messages)?);
+            let mut events = ErrorKeeping::new(open_file(around.files, path, messages)?);
             let status = replay(around.alloc, &mut events, around.output, messages);
             messages.tell_failure(path, &events);
             Ok(status)
@@ -293,7 +293,7 @@ fn replay_of<'a, H: Host, R: Read>(
 /// Runs what the words ask for, and returns the exit status of the run. Sessions that are to be served, a script for a server,
 /// and a question are handed back.
 fn run_words<'a, H: Host, R: Read>(
-    around: &mut Surroundings<'_, '_, H>,
+    around: &mut RunContext<'_, '_, H>,
     words: &'a [String],
     input: &mut R,
     messages: &mut Messages<'a, H::Errors, H::Clock>,
@@ -374,7 +374,7 @@ pub fn program<
     if is_terminal {
         messages.turn_on();
     }
-    let mut around: Surroundings<'_, '_, HostOf<F, D, W, &mut E, &F>> = Surroundings {
+    let mut around: RunContext<'_, '_, HostOf<F, D, W, &mut E, &F>> = RunContext {
         alloc,
         files,
         databases: &mut *databases,

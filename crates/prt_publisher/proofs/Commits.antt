@@ -21,7 +21,7 @@ use Rattle.prt_version.specs.Accepted.{IsAccepted, changes_of}
 use Rattle.prt_version.specs.Change.{fold}
 use Rattle.prt_version.specs.State.{State}
 use Rattle.prt_version.specs.declared.change.Change.{Change}
-use Rattle.prt_front.specs.Line.{line_state}
+use Rattle.prt_published.specs.Line.{line_state}
 use Rattle.prt_publisher.specs.Exits.{HaveCommitted}
 use Rattle.prt_publisher.specs.Standing.{Agrees, IsLeft, Standing}
 use Rattle.prt_publisher.specs.Step.{IsPlan, IsStep, commands_of, phase_of}

@@ -1,7 +1,7 @@
 -- The published list after commands more.
 use Rattle.std.proofs.Common.{◌≡◌, ℕ, ◌+◌, List, length, ap, ◌∙◌, arith}
 use Rattle.prt_command.specs.declared.request.Command.{Command}
-use Rattle.prt_front.specs.Line.{Line, grown_by, line_state}
+use Rattle.prt_published.specs.Line.{Line, grown_by, line_state}
 use Rattle.prt_version.proofs.Folds.{count_fold, fold_append}
 use Rattle.prt_version.specs.Accepted.{IsAccepted}
 use Rattle.prt_version.specs.Change.{fold}

@@ -6,7 +6,7 @@ use Rattle.sqlite.specs.Store.{Ghosts}
 use Rattle.prt_refusals.specs.Opening.{IsOpenRefusal}
 use Rattle.prt_refusals.specs.declared.refusal.Refusal.{Refusal}
 use Rattle.prt_refusals.specs.declared.refusal.Refusal.TheVariants.{Damaged}
-use Rattle.prt_front.specs.Line.{line_state}
+use Rattle.prt_published.specs.Line.{line_state}
 use Rattle.prt_publisher.specs.Standing.{Standing}
 use Rattle.prt_rows.specs.Format.{BeginsFormat2, SuitsFormat2}
 use Rattle.prt_store.specs.Adopted.{Adopts, AdoptsPart, LeavesPart}

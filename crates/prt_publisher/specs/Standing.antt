@@ -6,8 +6,8 @@ use Rattle.sqlite.specs.Store.{Ghosts}
 use Rattle.sqlite.specs.Tree.{Trees}
 use Rattle.prt_command.specs.declared.request.Command.{Command}
 use Rattle.prt_command.specs.contracts.request.Command as command
-use Rattle.prt_front.specs.Line.{Line, line_state}
-use Rattle.prt_front.specs.contracts.known.Known as known
+use Rattle.prt_published.specs.Line.{Line, line_state}
+use Rattle.prt_published.specs.contracts.known.Known as known
 use Rattle.prt_publisher.specs.contracts.phase.Phase as phase
 use Rattle.prt_publisher.specs.declared.phase.Phase.{Phase}
 use Rattle.prt_publisher.specs.declared.phase.Phase.TheVariants.{Ready, Committed, Published, Closed}

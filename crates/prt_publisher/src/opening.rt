@@ -4,14 +4,14 @@ ghost use Rattle.std.specs.Arc.{arc_value};
 ghost use Rattle.sqlite.specs.Held.{state};
 ghost use Rattle.prt_refusals.specs.declared.refusal.Refusal.TheVariants.{NoMemory};
 ghost use Rattle.prt_publisher.specs.Openings.{HasOpened, HasRefused};
-ghost use Rattle.prt_front.specs.Line.{line_state};
+ghost use Rattle.prt_published.specs.Line.{line_state};
 ghost use Rattle.prt_rows.specs.Format.{BeginsFormat2};
 ghost use Rattle.prt_version.specs.Accepted.{IsAccepted};
 
 use crate::plan::owners;
 use prt_command::Refusal;
-use prt_front::Front;
 use prt_grace::{Domain, Keeper};
+use prt_published::Front;
 use prt_rows::begins_format_2;
 use prt_store::Store;
 use prt_version::Version;

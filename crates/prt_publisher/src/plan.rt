@@ -7,7 +7,7 @@ ghost use Rattle.prt_publisher.specs.Step.{AreChecked, IsPlan, commands_checked}
 use crate::checked::CheckedCommands;
 use crate::{ChangeSet, Checked};
 use prt_command::{Command, Refusal};
-use prt_front::Front;
+use prt_published::Front;
 use prt_version::{Change, Version};
 use std::alloc::{AllocError, Global};
 use std::sync::Arc;

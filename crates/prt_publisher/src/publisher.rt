@@ -8,7 +8,7 @@ ghost use Rattle.prt_refusals.specs.declared.refusal.Refusal.TheVariants.{Busy, 
 ghost use Rattle.prt_refusals.specs.declared.refusal.StoreCall.{StoreCall};
 ghost use Rattle.prt_refusals.specs.declared.refusal.StoreCall.TheVariants.{Commit};
 ghost use Rattle.prt_command.specs.Storable.{IsStorable};
-ghost use Rattle.prt_front.specs.Line.{grown, grown_by, line_state};
+ghost use Rattle.prt_published.specs.Line.{grown, grown_by, line_state};
 ghost use Rattle.prt_grace.specs.Registry.{noted_by, reclaimed};
 ghost use Rattle.prt_grace.specs.declared.limits.TheConstants.{MOST_RETIRED};
 ghost use Rattle.prt_publisher.specs.Exits.{AreNotAcknowledged, AreNotChecked, AreNotPrepared, HasCommitted, HaveCommitted, IsNotAcknowledged, IsNotPrepared, Spares, Takes, TakesAll};
@@ -30,8 +30,8 @@ use crate::opening::open;
 use crate::plan::{Plan, plan_shown};
 use crate::{ChangeSet, Checked, Phase, Receipt, Seats};
 use prt_command::{Command, Refusal};
-use prt_front::{Front, Known, Told};
 use prt_grace::{Domain, Keeper, LockedRegistry};
+use prt_published::{Front, Known, Told};
 use prt_store::{Stamp, Store};
 use prt_version::Version;
 use sqlite::{Alter, Connection, Error};
@@ -120,7 +120,7 @@ impl<S: Alter + Drop> Model for Publisher<S> {
     ghost use Rattle.std.specs.Prelude.{◌≡◌, ◌+◌};
     ghost use Rattle.std.specs.Arc.{arc_value};
     ghost use Rattle.sqlite.specs.Held.{Held, held_code};
-    ghost use Rattle.prt_front.specs.Line.{line_state};
+    ghost use Rattle.prt_published.specs.Line.{line_state};
     ghost use Rattle.prt_publisher.specs.Standing.{Agrees, Standing, standing_code, unnoted};
     ghost use Rattle.prt_publisher.specs.Step.{IsStep, commands_of, phase_of};
     ghost use Rattle.prt_store.specs.Exits.{IsKnown};

@@ -1,8 +1,8 @@
 //! Acknowledgements.
 ghost use Rattle.std.specs.Prelude.{◌≡◌, ◌+◌, ◌-◌, ◌<◌, length, take};
-ghost use Rattle.prt_front.specs.Line.{line_state};
+ghost use Rattle.prt_published.specs.Line.{line_state};
 
-use prt_front::Told;
+use prt_published::Told;
 use std::marker::Model;
 
 /// Says that a command, or commands together, were committed, published and noted. A publisher alone makes one; of it those
@@ -15,7 +15,7 @@ pub struct Receipt {
 
 impl Model for Receipt {
     ghost use Rattle.std.specs.Prelude.{◌≡◌, ◌+◌, length};
-    ghost use Rattle.prt_front.specs.Line.{Line, line_state};
+    ghost use Rattle.prt_published.specs.Line.{Line, line_state};
 
     ghost Value = { Line };
 

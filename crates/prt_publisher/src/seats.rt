@@ -1,7 +1,7 @@
 //! Readers that no looker has.
 ghost use Rattle.std.specs.Prelude.{◌≡◌, All, IfSome};
 
-use prt_front::{FrontReader, Known};
+use prt_published::{FrontReader, Known};
 use std::marker::Model;
 
 /// Readers of one front that no looker has. Contracts see them as a prefix of its list.
@@ -13,7 +13,7 @@ pub struct Seats {
 
 impl Model for Seats {
     ghost use Rattle.std.specs.Prelude.{◌≡◌, All};
-    ghost use Rattle.prt_front.specs.Line.{Line};
+    ghost use Rattle.prt_published.specs.Line.{Line};
 
     ghost Value = { Line };
 

@@ -10,8 +10,8 @@ use Rattle.prt_program.specs.Faults.{database_of}
 use Rattle.prt_program.specs.Program.{IsUntouched, Runs, RunsAt, RunsBatch, RunsNothing, RunsOver, SessionFact, Streams}
 use Rattle.prt_publisher.specs.Openings.{OpensOne}
 use Rattle.prt_version.specs.Sound.{IsSound}
-use Rattle.prt_words.specs.Invocation.{Invocation, batch, check, replay}
-use Rattle.prt_words.specs.declared.task.Mode.{Mode}
+use Rattle.prt_args.specs.Invocation.{Invocation, batch, check, replay}
+use Rattle.prt_args.specs.declared.task.Mode.{Mode}
 use Rattle.prt_questions.specs.Sessions.{RunsOverMachine}
 
 -- ---- the same run, of the machine alone

@@ -9,7 +9,7 @@ use Rattle.prt_command.specs.declared.request.Command.{Command}
 use Rattle.prt_publisher.specs.Openings.{OpensOne}
 use Rattle.prt_publisher.specs.Standing.{Standing}
 use Rattle.prt_publisher.specs.declared.phase.Phase.TheVariants.{Ready}
-use Rattle.prt_front.specs.Line.{line_state}
+use Rattle.prt_published.specs.Line.{line_state}
 use Rattle.prt_version.specs.Accepted.{IsAccepted}
 use Rattle.prt_version.specs.Change.{fold}
 use Rattle.prt_version.specs.Sound.{IsSound}

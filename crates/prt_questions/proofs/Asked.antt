@@ -2,7 +2,7 @@
 use Rattle.std.proofs.Common.{◌≡◌, ◌⊎◌, ◌∙◌, arith, eqb-true, inl, inr, ℕ, true, List, [], ◌∷◌, ◌++◌, length, Option, Some, ap, append-nil, refl, subst, sym}
 use Rattle.std.specs.Prelude.{◌==◌, IfOk, Ok, Result, false}
 use Rattle.std.specs.Io.KnownBytes.{Appends}
-use Rattle.prt_words.specs.declared.server_place.ServerPlace.{ServerPlace}
+use Rattle.prt_args.specs.declared.server_place.ServerPlace.{ServerPlace}
 use Rattle.sqlite.specs.Held.{Held}
 use Rattle.sqlite.specs.Store.{Ghosts}
 use Rattle.prt_import.specs.Accepted.{IsExecuted}
@@ -12,16 +12,16 @@ use Rattle.prt_ask.specs.declared.answers.Answered.{Answered}
 use Rattle.prt_ask.specs.declared.notes.Notes.{Notes}
 use Rattle.prt_ask.specs.declared.question.Question.{Question}
 use Rattle.prt_ask.specs.declared.question.Question.TheVariants as questions
-use Rattle.prt_ask.specs.declared.refusal.NotAnswered.{NotAnswered}
+use Rattle.prt_ask.specs.declared.refusal.AnswerError.{AnswerError}
 use Rattle.prt_replies.specs.Written.{Written}
 use Rattle.prt_version.specs.State.{State}
-use Rattle.prt_words.specs.declared.asking.Source.{Source}
-use Rattle.prt_words.specs.declared.asking.Source.TheVariants.{Database, Server, Script}
+use Rattle.prt_args.specs.declared.asking.Source.{Source}
+use Rattle.prt_args.specs.declared.asking.Source.TheVariants.{Database, Server, Script}
 use Rattle.prt_questions.specs.Asking.{IsAnswered, IsAnsweredAtMost, IsAskedOf, IsCutOff, IsNotAsked, IsQuery, IsReplied, IsRepliedAtMost, IsTold, IsWholeAnswer, called, said}
 use Rattle.prt_questions.specs.Sources.{Sources}
 use Rattle.prt_questions.specs.Told.{IsSaidOf, TellsOrReplies}
 use Rattle.prt_questions.specs.declared.inquiry.Inquiry.{Inquiry}
-use Rattle.prt_questions.specs.declared.machine.Wanted.{Wanted}
+use Rattle.prt_questions.specs.declared.database_opener.Wanted.{Wanted}
 use Rattle.prt_questions.specs.declared.remote.Told.{Told}
 use Rattle.prt_questions.specs.declared.remote.Told.TheVariants.{Reply, Tables}
 use Rattle.prt_import.specs.TableNames.{names_of}
@@ -99,7 +99,7 @@ whole_by questions.Replace state notes are is = (notes, are, is)
 whole_by (questions.Diff comparison) state notes are is = (notes, are, is)
 
 -- and any answer whose notes say so
-pub whole_answer : (question : Question) (state : State) (answered : Result Answered NotAnswered) → IfOk answered (λ made. AreNotes question state made.notes)
+pub whole_answer : (question : Question) (state : State) (answered : Result Answered AnswerError) → IfOk answered (λ made. AreNotes question state made.notes)
     → ((made : Answered) × (answered ≡ Ok made) × (is_whole_change made.notes ≡ true)) → IsWholeAnswer question state
 whole_answer question state answered are is = whole_by question state is.0.notes (subst (λ result. IfOk result (λ made. AreNotes question state made.notes)) is.1 are) is.2
 

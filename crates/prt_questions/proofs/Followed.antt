@@ -11,7 +11,7 @@ use Rattle.prt_feed.specs.declared.change.Change.{Change}
 use Rattle.prt_replies.specs.Written.{Written}
 use Rattle.prt_version.specs.Accepted.{IsAccepted}
 use Rattle.prt_version.specs.State.{State}
-use Rattle.prt_words.specs.declared.server_place.ServerPlace.{ServerPlace}
+use Rattle.prt_args.specs.declared.server_place.ServerPlace.{ServerPlace}
 use Rattle.prt_questions.specs.Asking.{follow_text}
 use Rattle.prt_questions.specs.Sources.{AreFed, AreTold}
 use Rattle.prt_questions.specs.declared.local.Socket.{Socket}

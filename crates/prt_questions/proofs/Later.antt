@@ -9,16 +9,16 @@ use Rattle.prt_diff.specs.Text.{changes_text}
 use Rattle.prt_diff.specs.declared.fence.Fence.{Fence}
 use Rattle.prt_partition.specs.declared.sameness.Sameness.{Sameness}
 use Rattle.prt_version.specs.State.{State}
-use Rattle.prt_words.specs.declared.analysis.Asserting.{Asserting}
-use Rattle.prt_words.specs.declared.analysis.Rehearsing.{Rehearsing}
-use Rattle.prt_words.specs.declared.asking.Shown.{Shown}
-use Rattle.prt_words.specs.declared.asking.Shown.TheVariants.{Impact, Lines, Status}
-use Rattle.prt_words.specs.declared.asking.Source.{Source}
-use Rattle.prt_words.specs.declared.asking.Source.TheVariants.{Database, Server, Script}
+use Rattle.prt_args.specs.declared.analysis.AssertArgs.{AssertArgs}
+use Rattle.prt_args.specs.declared.analysis.ImpactArgs.{ImpactArgs}
+use Rattle.prt_args.specs.declared.asking.Shown.{Shown}
+use Rattle.prt_args.specs.declared.asking.Shown.TheVariants.{Impact, Lines, Status}
+use Rattle.prt_args.specs.declared.asking.Source.{Source}
+use Rattle.prt_args.specs.declared.asking.Source.TheVariants.{Database, Server, Script}
 use Rattle.prt_questions.specs.Analyses.{IsAsserted, IsAssertedAtMost, IsNotRead, IsRehearsed, IsRehearsedAtMost, IsStopped, Rehearsed, sameness_of}
 use Rattle.prt_questions.specs.Asking.{IsAnswered, IsAnsweredAtMost, IsAskedOf, IsCutOff, IsShown, IsShownAtMost, IsWholeChange, IsWithImpact}
 use Rattle.prt_questions.specs.Sources.{HasLeft, IsRead, Sources, after, path_of}
-use Rattle.prt_questions.specs.declared.machine.Wanted.{Wanted}
+use Rattle.prt_questions.specs.declared.database_opener.Wanted.{Wanted}
 
 pub later : (files : List ℕ → List ℕ → Type 0) (rest : List ℕ → List ℕ) (input0 input : Option (List ℕ)) → HasLeft rest input0 input → (file : Option Word) (text : List ℕ) → IsRead files input file text → IsRead files (option_map rest input0) file text
 later files rest input0 input left (Some path) text read = read
@@ -27,26 +27,26 @@ later files rest (Some all) input left None text read = subst (λ known. IfSome 
 
 -- by what was read of a script, or of claims
 module _ (reads gives : List ℕ → Type 0) (more : (text : List ℕ) → reads text → gives text) (writer0 writer : Option (List ℕ)) where
-  stopped_by : (rehearsing : Rehearsing) (state : State) → IsStopped reads rehearsing state → IsStopped gives rehearsing state
+  stopped_by : (rehearsing : ImpactArgs) (state : State) → IsStopped reads rehearsing state → IsStopped gives rehearsing state
   stopped_by rehearsing state is = record { stops = is.stops; made = is.made; script = is.script; read = more is.script is.read; executed = is.executed; refused = is.refused }
 
   shown_by : (sameness : Sameness) (state : State) → Rehearsed reads sameness state → Rehearsed gives sameness state
   shown_by sameness state is = record { made = is.made; script = is.script; read = more is.script is.read; executed = is.executed; groups = is.groups; are = is.are }
 
-  pub rehearsed_by : (rehearsing : Rehearsing) (status : ℕ) (state : State) → IsRehearsed reads writer0 writer rehearsing status state → IsRehearsed gives writer0 writer rehearsing status state
+  pub rehearsed_by : (rehearsing : ImpactArgs) (status : ℕ) (state : State) → IsRehearsed reads writer0 writer rehearsing status state → IsRehearsed gives writer0 writer rehearsing status state
   unfolding shown_by
   rehearsed_by rehearsing status state (inl stopped) = inl (stopped_by rehearsing state stopped.0, stopped.1, stopped.2)
   rehearsed_by rehearsing status state (inr shown) = inr (shown_by (sameness_of rehearsing.exactness) state shown.0, shown.1, shown.2, shown.3)
 
-  pub rehearsed_at_most_by : (rehearsing : Rehearsing) (state : State) → IsRehearsedAtMost reads writer0 writer rehearsing state → IsRehearsedAtMost gives writer0 writer rehearsing state
+  pub rehearsed_at_most_by : (rehearsing : ImpactArgs) (state : State) → IsRehearsedAtMost reads writer0 writer rehearsing state → IsRehearsedAtMost gives writer0 writer rehearsing state
   unfolding shown_by
   rehearsed_at_most_by rehearsing state (inl same) = inl same
   rehearsed_at_most_by rehearsing state (inr shown) = inr (shown_by (sameness_of rehearsing.exactness) state shown.0, shown.1)
 
-  pub asserted_by : (asserting : Asserting) (status : ℕ) (state : State) → IsAsserted reads writer0 writer asserting status state → IsAsserted gives writer0 writer asserting status state
+  pub asserted_by : (asserting : AssertArgs) (status : ℕ) (state : State) → IsAsserted reads writer0 writer asserting status state → IsAsserted gives writer0 writer asserting status state
   asserted_by asserting status state is = (is.0, more is.0 is.1, is.2, is.3, is.4, is.5, is.6)
 
-  pub asserted_at_most_by : (asserting : Asserting) (state : State) → IsAssertedAtMost reads writer0 writer asserting state → IsAssertedAtMost gives writer0 writer asserting state
+  pub asserted_at_most_by : (asserting : AssertArgs) (state : State) → IsAssertedAtMost reads writer0 writer asserting state → IsAssertedAtMost gives writer0 writer asserting state
   asserted_at_most_by asserting state (inl same) = inl same
   asserted_at_most_by asserting state (inr is) = inr (is.0, more is.0 is.1, is.2, is.3, is.4)
 

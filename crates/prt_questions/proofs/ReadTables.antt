@@ -7,18 +7,18 @@ use Rattle.prt_import.specs.Accepted.{IsExecuted}
 use Rattle.prt_import.specs.declared.accepted.Accepted.{Accepted}
 use Rattle.prt_version.specs.State.{State}
 use Rattle.prt_addr.specs.Word.{Word}
-use Rattle.prt_words.specs.declared.asking.Shown.{Shown}
-use Rattle.prt_words.specs.declared.asking.Shown.TheVariants.{Impact, Lines, Status}
-use Rattle.prt_words.specs.declared.asking.Source.{Source}
-use Rattle.prt_words.specs.declared.reach.Reach.{Reach}
-use Rattle.prt_words.specs.declared.server_place.ServerPlace.{ServerPlace}
-use Rattle.prt_words.specs.declared.asking.Source.TheVariants.{Database, Script, Server}
-use Rattle.prt_words.specs.declared.fault.TheConstants.{DONE}
+use Rattle.prt_args.specs.declared.asking.Shown.{Shown}
+use Rattle.prt_args.specs.declared.asking.Shown.TheVariants.{Impact, Lines, Status}
+use Rattle.prt_args.specs.declared.asking.Source.{Source}
+use Rattle.prt_args.specs.declared.reach.Reach.{Reach}
+use Rattle.prt_args.specs.declared.server_place.ServerPlace.{ServerPlace}
+use Rattle.prt_args.specs.declared.asking.Source.TheVariants.{Database, Script, Server}
+use Rattle.prt_args.specs.declared.fault.TheConstants.{DONE}
 use Rattle.prt_questions.specs.Analyses.{HaveTables, IsFoundOf, IsNotRead}
 use Rattle.prt_questions.specs.Asking.{HasCompared, HasComparedAtMost, IsAskedOf, IsFenced, IsShown, IsShownAtMost, IsWholeFenced}
 use Rattle.prt_questions.specs.LeftOut.{AreKernels}
 use Rattle.prt_questions.specs.Sources.{Gives, Sources, after, path_of, rest_after}
-use Rattle.prt_questions.specs.declared.machine.Wanted.{Wanted}
+use Rattle.prt_questions.specs.declared.database_opener.Wanted.{Wanted}
 use Rattle.prt_questions.specs.declared.tables.Tables.{Tables}
 use Rattle.prt_questions.proofs.Asked.{asked_more}
 

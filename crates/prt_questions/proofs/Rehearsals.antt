@@ -7,8 +7,8 @@ use Rattle.prt_refusals.specs.declared.on_refusal.OnRefusal.TheVariants.{Stop}
 use Rattle.prt_import.specs.Accepted.{IsExecutedOver}
 use Rattle.prt_import.specs.declared.accepted.Accepted.{Accepted}
 use Rattle.prt_version.specs.State.{State}
-use Rattle.prt_words.specs.declared.analysis.Rehearsing.{Rehearsing}
-use Rattle.prt_words.specs.declared.fault.TheConstants.{DONE}
+use Rattle.prt_args.specs.declared.analysis.ImpactArgs.{ImpactArgs}
+use Rattle.prt_args.specs.declared.fault.TheConstants.{DONE}
 use Rattle.prt_questions.specs.Analyses.{IsRehearsed, IsRehearsedAtMost, impact_text, sameness_of}
 use Rattle.prt_questions.specs.Asking.{IsCutOff}
 use Rattle.prt_questions.specs.LeftOut.{AreKernels}
@@ -19,7 +19,7 @@ pub are_refused : (left : ℕ) → (left ≡ DONE) ⊎ (left ≡ REFUSED) → le
 are_refused left (inl is) other = absurd (other is)
 are_refused left (inr is) other = is
 
-module _ (reads : List ℕ → Type 0) (writer0 writer : Option (List ℕ)) (rehearsing : Rehearsing) (state : State) (made : Accepted) (script : List ℕ) (read : reads script) (executed : IsExecutedOver state made script) where
+module _ (reads : List ℕ → Type 0) (writer0 writer : Option (List ℕ)) (rehearsing : ImpactArgs) (state : State) (made : Accepted) (script : List ℕ) (read : reads script) (executed : IsExecutedOver state made script) where
   pub shows : (status : ℕ) (groups : List Group) → AreGroups (sameness_of rehearsing.exactness) state made.version groups → Appends writer0 writer (impact_text rehearsing.form groups) → (rehearsing.on_refusal ≡ Stop → AreKernels made.left.items) → (status ≡ DONE → (groups ≡ []) × AreKernels made.left.items) → IsRehearsed reads writer0 writer rehearsing status state
   shows status groups are appended goes_on none = inr (record { made = made; script = script; read = read; executed = executed; groups = groups; are = are }, appended, goes_on, none)
 

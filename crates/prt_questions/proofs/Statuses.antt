@@ -1,6 +1,6 @@
 -- What was done after lines were left out.
 use Rattle.std.proofs.Common.{◌≡◌, ◌≢◌, ◌⊎◌, ◌∙◌, inl, inr, ℕ, sym}
-use Rattle.prt_words.specs.declared.fault.TheConstants.{DONE}
+use Rattle.prt_args.specs.declared.fault.TheConstants.{DONE}
 
 -- if all was done, both was
 pub both_done : (done left result : ℕ) → ((done ≡ DONE) × (result ≡ left)) ⊎ ((done ≢ DONE) × (result ≡ done)) → result ≡ DONE → (done ≡ DONE) × (left ≡ DONE)

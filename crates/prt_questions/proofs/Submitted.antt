@@ -19,8 +19,8 @@ use Rattle.prt_session.proofs.Submitted.{faultless_lines, unrefused_lines}
 use Rattle.prt_session.specs.Atomic.{ReadIs, WroteReplies, accepted_after, alone}
 use Rattle.prt_session.specs.Run.{fault_in, refused_in}
 use Rattle.prt_session.specs.declared.atomic.CommandsRead.{CommandsRead}
-use Rattle.prt_words.specs.declared.fault.TheConstants.{DONE}
-use Rattle.prt_words.specs.declared.server_place.ServerPlace.{ServerPlace}
+use Rattle.prt_args.specs.declared.fault.TheConstants.{DONE}
+use Rattle.prt_args.specs.declared.server_place.ServerPlace.{ServerPlace}
 use Rattle.prt_questions.specs.Sources.{Gives, Sources}
 use Rattle.prt_questions.specs.Submitting.{EndsWith, HasSubmitted, IsAllMade, IsAllTold, IsQuiet, IsReadOf, IsRefusal, IsReplied, IsScriptRead, IsSent, IsVerdictOf, fault_by, refused_by, submission_text}
 

@@ -22,20 +22,20 @@ use Rattle.prt_unused.specs.Text.{unused_text}
 use Rattle.prt_unused.specs.Unused.{AreUnused}
 use Rattle.prt_unused.specs.declared.report.Unused.{Unused}
 use Rattle.prt_version.specs.State.{State}
-use Rattle.prt_words.specs.declared.analysis.Asserting.{Asserting}
-use Rattle.prt_words.specs.declared.analysis.Exactness.{Exactness}
-use Rattle.prt_words.specs.declared.analysis.Exactness.TheVariants as exactness
-use Rattle.prt_words.specs.declared.analysis.Rehearsing.{Rehearsing}
-use Rattle.prt_words.specs.declared.asking.Form.{Form}
-use Rattle.prt_words.specs.declared.asking.Form.TheVariants.{Json, Lines}
-use Rattle.prt_words.specs.declared.asking.Source.{Source}
-use Rattle.prt_words.specs.declared.asking.Source.TheVariants.{Script}
-use Rattle.prt_words.specs.declared.fault.TheConstants.{DONE}
+use Rattle.prt_args.specs.declared.analysis.AssertArgs.{AssertArgs}
+use Rattle.prt_args.specs.declared.analysis.Exactness.{Exactness}
+use Rattle.prt_args.specs.declared.analysis.Exactness.TheVariants as exactness
+use Rattle.prt_args.specs.declared.analysis.ImpactArgs.{ImpactArgs}
+use Rattle.prt_args.specs.declared.asking.Form.{Form}
+use Rattle.prt_args.specs.declared.asking.Form.TheVariants.{Json, Lines}
+use Rattle.prt_args.specs.declared.asking.Source.{Source}
+use Rattle.prt_args.specs.declared.asking.Source.TheVariants.{Script}
+use Rattle.prt_args.specs.declared.fault.TheConstants.{DONE}
 use Rattle.prt_questions.specs.Asking.{IsAskedOf, IsCutOff, IsNotAsked}
 use Rattle.prt_questions.specs.LeftOut.{AreKernels, is_kernels}
 use Rattle.prt_questions.specs.Sources.{Gives, Sources, path_of}
 use Rattle.prt_questions.specs.declared.asking.TheConstants.{REFUSED}
-use Rattle.prt_questions.specs.declared.machine.Wanted.{Wanted}
+use Rattle.prt_questions.specs.declared.database_opener.Wanted.{Wanted}
 
 -- ---- a change
 
@@ -58,7 +58,7 @@ pub record Rehearsed (reads : List ℕ → Type 0) (sameness : Sameness) (state 
   pub are : AreGroups sameness state made.version groups
 
 -- a line of the script is refused, and nothing was compared
-pub record IsStopped (reads : List ℕ → Type 0) (rehearsing : Rehearsing) (state : State) : Type 0 where
+pub record IsStopped (reads : List ℕ → Type 0) (rehearsing : ImpactArgs) (state : State) : Type 0 where
   pub stops : rehearsing.on_refusal ≡ Stop
   pub made : Accepted
   pub script : List ℕ
@@ -80,7 +80,7 @@ breaches_text explained state breaches = flat_map (breach_lines explained state)
 -- of the script or the claims that were read
 module _ (reads : List ℕ → Type 0) (writer0 writer : Option (List ℕ)) where
   -- all groups were written; with status 0 there are none, and no line of the script is refused
-  abbrev pub ShowsImpact : Rehearsing → (status : ℕ) → State → Type 0
+  abbrev pub ShowsImpact : ImpactArgs → (status : ℕ) → State → Type 0
   ShowsImpact rehearsing status state =
       (rehearsed : Rehearsed reads (sameness_of rehearsing.exactness) state)
       × Appends writer0 writer (impact_text rehearsing.form rehearsed.groups)
@@ -88,25 +88,25 @@ module _ (reads : List ℕ → Type 0) (writer0 writer : Option (List ℕ)) wher
       × (status ≡ DONE → (rehearsed.groups ≡ []) × AreKernels rehearsed.made.left.items)
 
   -- or nothing was written, since a line of the script is refused; then the status is 1
-  abbrev pub IsRehearsed : Rehearsing → (status : ℕ) → State → Type 0
+  abbrev pub IsRehearsed : ImpactArgs → (status : ℕ) → State → Type 0
   IsRehearsed rehearsing status state =
       (IsStopped reads rehearsing state × (writer ≡ writer0) × (status ≡ REFUSED))
       ⊎ ShowsImpact rehearsing status state
 
   -- in any case: nothing was written, or a part at most
-  abbrev pub IsRehearsedAtMost : Rehearsing → State → Type 0
+  abbrev pub IsRehearsedAtMost : ImpactArgs → State → Type 0
   IsRehearsedAtMost rehearsing state =
       (writer ≡ writer0)
       ⊎ ((rehearsed : Rehearsed reads (sameness_of rehearsing.exactness) state) × IsCutOff (impact_text rehearsing.form rehearsed.groups) writer0 writer)
 
   -- each claim of a text that doesn't hold was written, with a packet; with status 0 there are none
-  abbrev pub IsAsserted : Asserting → (status : ℕ) → State → Type 0
+  abbrev pub IsAsserted : AssertArgs → (status : ℕ) → State → Type 0
   IsAsserted asserting status state =
       (text : List ℕ) × reads text × (checked : Checked) × IsChecked state text checked × (checked.bad.items ≡ [])
       × Appends writer0 writer (breaches_text asserting.is_explained state checked.breaches.items)
       × (status ≡ DONE → checked.breaches.items ≡ [])
 
-  abbrev pub IsAssertedAtMost : Asserting → State → Type 0
+  abbrev pub IsAssertedAtMost : AssertArgs → State → Type 0
   IsAssertedAtMost asserting state =
       (writer ≡ writer0)
       ⊎ ((text : List ℕ) × reads text × (checked : Checked) × IsChecked state text checked × IsCutOff (breaches_text asserting.is_explained state checked.breaches.items) writer0 writer)

@@ -8,7 +8,7 @@ use Rattle.prt_apply.specs.Brings.{AreAlike}
 use Rattle.prt_apply.specs.Plan.{plan}
 use Rattle.prt_command.specs.declared.request.Command.{Command}
 use Rattle.prt_diff.specs.Text.{commands_text}
-use Rattle.prt_front.specs.Line.{line_state}
+use Rattle.prt_published.specs.Line.{line_state}
 use Rattle.prt_impact.specs.Groups.{AreGroups}
 use Rattle.prt_impact.specs.declared.group.Group.{Group}
 use Rattle.prt_import.specs.Accepted.{IsExecuted}
@@ -19,17 +19,17 @@ use Rattle.prt_publisher.specs.Openings.{OpensOne}
 use Rattle.prt_publisher.specs.Standing.{IsQuiet, Standing, Stands}
 use Rattle.prt_publisher.specs.declared.phase.Phase.TheVariants.{Ready}
 use Rattle.prt_version.specs.State.{State}
-use Rattle.prt_words.specs.declared.server_place.ServerPlace.{ServerPlace}
-use Rattle.prt_words.specs.declared.service.Applying.{Applying}
-use Rattle.prt_words.specs.declared.service.Target.{Target}
-use Rattle.prt_words.specs.declared.service.Target.TheVariants.{Database, Server}
+use Rattle.prt_args.specs.declared.server_place.ServerPlace.{ServerPlace}
+use Rattle.prt_args.specs.declared.service.ApplyArgs.{ApplyArgs}
+use Rattle.prt_args.specs.declared.service.Target.{Target}
+use Rattle.prt_args.specs.declared.service.Target.TheVariants.{Database, Server}
 use Rattle.prt_questions.specs.Asking.{IsCutOff, IsNotOpened, comments_of}
 use Rattle.prt_questions.specs.Closing.{IsClosedAgain}
 use Rattle.prt_questions.specs.LeftOut.{AreKernels}
 use Rattle.prt_questions.specs.Sources.{Gives, Sources, path_of}
 use Rattle.prt_questions.specs.Submitting.{AreMadeInParts}
-use Rattle.prt_questions.specs.declared.machine.Wanted.{Wanted}
-use Rattle.prt_questions.specs.declared.machine.Wanted.TheVariants.{Any, Ours}
+use Rattle.prt_questions.specs.declared.database_opener.Wanted.{Wanted}
+use Rattle.prt_questions.specs.declared.database_opener.Wanted.TheVariants.{Any, Ours}
 
 -- ---- what is printed
 
@@ -119,11 +119,11 @@ module _ {M S : Type 0} (g : Ghosts S) (opens : Wanted → M → M → List ℕ 
   IsAppliedAtMost (Server ends) shows is_dry_run wanted = (new ≡ old) × ((writer ≡ writer0) ⊎ ((told : State) × from.tells ends.feed told × IsPrintedAtMost shows told wanted writer0 writer))
 
   -- the tables were made what the script makes
-  abbrev pub HasApplied : Applying → Type 0
+  abbrev pub HasApplied : ApplyArgs → Type 0
   HasApplied applying = (made : Accepted) × IsScript (Gives from (path_of applying.file)) made × IsAppliedTo applying.target applying.has_impact applying.is_dry_run made.version
 
   -- in any case: a line of the script is refused, or it can't be read, and nothing was done; or it was applied at most
-  abbrev pub HasAppliedAtMost : Applying → Type 0
+  abbrev pub HasAppliedAtMost : ApplyArgs → Type 0
   HasAppliedAtMost applying =
       ((new ≡ old) × (writer ≡ writer0))
       ⊎ ((made : Accepted) × IsScript (Gives from (path_of applying.file)) made × IsAppliedAtMost applying.target applying.has_impact applying.is_dry_run made.version)

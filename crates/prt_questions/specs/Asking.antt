@@ -27,7 +27,7 @@ use Rattle.prt_import.specs.Naming.{with_names}
 use Rattle.prt_import.specs.TableNames.{KnownNames, TableNames, names_of}
 use Rattle.prt_import.specs.declared.accepted.Accepted.{Accepted}
 use Rattle.prt_import.specs.declared.imported.Imported.{Imported}
-use Rattle.prt_import.specs.declared.left.Left.{Left}
+use Rattle.prt_import.specs.declared.omitted_line.OmittedLine.{OmittedLine}
 use Rattle.prt_import.specs.declared.naming.Text.{Text}
 use Rattle.prt_import.specs.declared.naming.Text.TheVariants as forms
 use Rattle.prt_ip_json.specs.Documents.{documents, is_json}
@@ -38,24 +38,24 @@ use Rattle.prt_publisher.specs.Openings.{HasOpened}
 use Rattle.prt_replies.specs.Written.{Written}
 use Rattle.prt_version.specs.Accepted.{IsAccepted}
 use Rattle.prt_version.specs.State.{State}
-use Rattle.prt_words.specs.declared.asking.Asking.{Asking}
-use Rattle.prt_words.specs.declared.asking.Form.{Form}
-use Rattle.prt_words.specs.declared.asking.Form.TheVariants.{Json, Lines as InLines}
-use Rattle.prt_words.specs.declared.asking.Labels.{Labels}
-use Rattle.prt_words.specs.declared.asking.Labels.TheVariants.{Names, Numbers}
-use Rattle.prt_words.specs.declared.asking.Shown.{Shown}
-use Rattle.prt_words.specs.declared.asking.Shown.TheVariants.{Impact, Lines, Status}
-use Rattle.prt_words.specs.declared.asking.Source.{Source}
-use Rattle.prt_words.specs.declared.asking.Source.TheVariants.{Database, Server, Script}
-use Rattle.prt_words.specs.declared.reach.Reach.{Reach}
-use Rattle.prt_words.specs.declared.server_place.ServerPlace.{ServerPlace}
+use Rattle.prt_args.specs.declared.asking.QueryArgs.{QueryArgs}
+use Rattle.prt_args.specs.declared.asking.Form.{Form}
+use Rattle.prt_args.specs.declared.asking.Form.TheVariants.{Json, Lines as InLines}
+use Rattle.prt_args.specs.declared.asking.Labels.{Labels}
+use Rattle.prt_args.specs.declared.asking.Labels.TheVariants.{Names, Numbers}
+use Rattle.prt_args.specs.declared.asking.Shown.{Shown}
+use Rattle.prt_args.specs.declared.asking.Shown.TheVariants.{Impact, Lines, Status}
+use Rattle.prt_args.specs.declared.asking.Source.{Source}
+use Rattle.prt_args.specs.declared.asking.Source.TheVariants.{Database, Server, Script}
+use Rattle.prt_args.specs.declared.reach.Reach.{Reach}
+use Rattle.prt_args.specs.declared.server_place.ServerPlace.{ServerPlace}
 use Rattle.prt_questions.specs.Fencing.{IsFenceOf}
 use Rattle.prt_questions.specs.Closing.{IsClosedAgain, LeavesNoneOpen}
 use Rattle.prt_questions.specs.LeftOut.{AreKernels, is_kernels}
 use Rattle.prt_questions.specs.Sources.{Gives, Sources, after, path_of, rest_after}
 use Rattle.prt_questions.specs.declared.inquiry.Inquiry.{Inquiry}
-use Rattle.prt_questions.specs.declared.machine.Wanted.{Wanted}
-use Rattle.prt_questions.specs.declared.machine.Wanted.TheVariants.{Ours}
+use Rattle.prt_questions.specs.declared.database_opener.Wanted.{Wanted}
+use Rattle.prt_questions.specs.declared.database_opener.Wanted.TheVariants.{Ours}
 
 -- ---- what is said
 
@@ -109,7 +109,7 @@ AreLinesOf text lines =
     ⊎ ((is_json text ≡ false) × (lines ≡ text))
 
 -- What a new database accepts of the script of lines, with some names of tables, and the lines that can't be kept.
-pub record IsMadeOf (lines : List ℕ) (left : List Left) (accepted : Accepted) : Type 0 where
+pub record IsMadeOf (lines : List ℕ) (left : List OmittedLine) (accepted : Accepted) : Type 0 where
   pub names : KnownNames
   pub imported : Imported
   pub is_of : IsImportOf imported names lines
@@ -121,12 +121,12 @@ abbrev pub adds : List ℕ → Bool
 adds line = starts_with nat_eq line (codes "rule add ") || starts_with nat_eq line (codes "route add ")
 
 -- some line of a listing is known: a rule or a route of it is kept, or the kernel makes one itself
-abbrev pub is_any_known : List Left → Accepted → Bool
+abbrev pub is_any_known : List OmittedLine → Accepted → Bool
 is_any_known left accepted = list_any adds (lines_of accepted.script.items) || list_any is_kernels left
 
 -- What one accepts of a text that was read, and that may be taken as a whole listing, of which some line is known; and the
 -- lines that can't be kept.
-pub record IsListing (reads : List ℕ → Type 0) (left : List Left) (accepted : Accepted) : Type 0 where
+pub record IsListing (reads : List ℕ → Type 0) (left : List OmittedLine) (accepted : Accepted) : Type 0 where
   pub text : List ℕ
   pub read : reads text
   pub lines : List ℕ
@@ -136,17 +136,17 @@ pub record IsListing (reads : List ℕ → Type 0) (left : List Left) (accepted 
   pub known : is_any_known left accepted ≡ true
 
 -- all lines are kept
-abbrev pub AreKept : List Left → Accepted → Type 0
+abbrev pub AreKept : List OmittedLine → Accepted → Type 0
 AreKept left accepted = AreKernels left × AreKernels accepted.left.items
 
 -- a listing that is kept
 abbrev pub IsWholeListing : (reads : List ℕ → Type 0) → Accepted → Type 0
-IsWholeListing reads accepted = (left : List Left) × IsListing reads left accepted × AreKept left accepted
+IsWholeListing reads accepted = (left : List OmittedLine) × IsListing reads left accepted × AreKept left accepted
 
 -- What a listing makes, and the fence that words name beside its lines that can't be kept.
 pub record IsFenced (reads : List ℕ → Type 0) (reach : Reach) (found : State) (fence : Fence) : Type 0 where
   pub accepted : Accepted
-  pub left : List Left
+  pub left : List OmittedLine
   pub listing : IsListing reads left accepted
   pub is_fence : IsFenceOf reach left fence
   pub makes : found ≡ accepted.version
@@ -243,14 +243,14 @@ module _ {M S : Type 0} (g : Ghosts S) (opens : Wanted → M → M → List ℕ 
   IsRepliedAtMost source line calls = ⊥
 
   -- a question was asked, and all of its answer was written; a session of a server is asked queries alone
-  abbrev pub HasAnswered : Asking → Type 0
+  abbrev pub HasAnswered : QueryArgs → Type 0
   HasAnswered asking =
       (asked : Question) × (question asking.verb asking.line.items asking.form ≡ Ok asked)
       × (names : TableNames) × (IsAnswered asking.source (λ state. called asking.labels asking.form names (answer asked state)) (IsWholeAnswer asked)
       ⊎ (IsQuery asked × IsReplied asking.source asking.line.items (called asking.labels asking.form names)))
 
   -- in any case: its words ask nothing, or it was answered in part at most
-  abbrev pub HasAnsweredAtMost : Asking → Type 0
+  abbrev pub HasAnsweredAtMost : QueryArgs → Type 0
   HasAnsweredAtMost asking =
       (IsNotAsked g opens refuses closes old new asking.source × (writer ≡ writer0))
       ⊎ ((asked : Question) × (question asking.verb asking.line.items asking.form ≡ Ok asked)

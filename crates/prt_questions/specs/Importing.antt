@@ -5,11 +5,11 @@ use Rattle.sqlite.specs.Held.{Held}
 use Rattle.sqlite.specs.Store.{Ghosts}
 use Rattle.prt_addr.specs.Word.{Word}
 use Rattle.prt_import.specs.declared.accepted.Accepted.{Accepted}
-use Rattle.prt_import.specs.declared.left.Left.{Left}
+use Rattle.prt_import.specs.declared.omitted_line.OmittedLine.{OmittedLine}
 use Rattle.prt_questions.specs.Applying.{IsMadeAt, IsMadeAtMost}
 use Rattle.prt_questions.specs.Asking.{IsCutOff, IsListing, IsWholeListing}
 use Rattle.prt_questions.specs.Sources.{Gives, Sources}
-use Rattle.prt_questions.specs.declared.machine.Wanted.{Wanted}
+use Rattle.prt_questions.specs.declared.database_opener.Wanted.{Wanted}
 
 module _ {M S : Type 0} (g : Ghosts S) (opens : Wanted → M → M → List ℕ → Held S → Type 0) (refuses : Wanted → M → M → List ℕ → Type 0) (closes : M → M → Held S → Type 0) (old new : M) (writer0 writer : Option (List ℕ)) where
   -- the script of a listing was written, or the tables of the database at a path were made those that it makes
@@ -31,4 +31,4 @@ module _ {M S : Type 0} (g : Ghosts S) (opens : Wanted → M → M → List ℕ 
   abbrev pub HasImportedAtMost : (file database : Option Word) → Type 0
   HasImportedAtMost file database =
       ((new ≡ old) × (writer ≡ writer0))
-      ⊎ ((accepted : Accepted) × (left : List Left) × IsListing (Gives from file) left accepted × IsImportedAtMost g opens refuses closes old new writer0 writer database accepted)
+      ⊎ ((accepted : Accepted) × (left : List OmittedLine) × IsListing (Gives from file) left accepted × IsImportedAtMost g opens refuses closes old new writer0 writer database accepted)

@@ -11,9 +11,9 @@ use Rattle.prt_feed.specs.Reading.{IsOpening}
 use Rattle.prt_feed.specs.declared.opening.Opening.{Opening}
 use Rattle.prt_version.specs.RowsSpell.{RowsSpell}
 use Rattle.prt_version.specs.State.{State}
-use Rattle.prt_words.specs.declared.asking.Source.{Source}
-use Rattle.prt_words.specs.declared.asking.Source.TheVariants.{Script}
-use Rattle.prt_words.specs.declared.server_place.ServerPlace.{ServerPlace}
+use Rattle.prt_args.specs.declared.asking.Source.{Source}
+use Rattle.prt_args.specs.declared.asking.Source.TheVariants.{Script}
+use Rattle.prt_args.specs.declared.server_place.ServerPlace.{ServerPlace}
 use Rattle.prt_questions.specs.declared.local.Socket.{Socket}
 use Rattle.prt_questions.specs.declared.local.Socket.TheVariants.{Atomic}
 

@@ -17,8 +17,8 @@ use Rattle.prt_session.specs.Desk.{Mishap}
 use Rattle.prt_session.specs.Run.{refused_in}
 use Rattle.prt_session.specs.Session.{Path, replies}
 use Rattle.prt_session.specs.declared.atomic.CommandsRead.{CommandsRead}
-use Rattle.prt_words.specs.declared.fault.TheConstants.{FAULT}
-use Rattle.prt_words.specs.declared.server_place.ServerPlace.{ServerPlace}
+use Rattle.prt_args.specs.declared.fault.TheConstants.{FAULT}
+use Rattle.prt_args.specs.declared.server_place.ServerPlace.{ServerPlace}
 use Rattle.prt_questions.specs.Sources.{Gives, Sources}
 
 -- ---- what a server is sent, and what it replies

@@ -9,7 +9,7 @@ use Rattle.prt_feed.specs.declared.opening.Opening.{Opening}
 use Rattle.prt_import.specs.TableNames.{names_of}
 use Rattle.prt_version.specs.RowsSpell.{RowsSpell}
 use Rattle.prt_version.specs.State.{State}
-use Rattle.prt_words.specs.declared.server_place.ServerPlace.{ServerPlace}
+use Rattle.prt_args.specs.declared.server_place.ServerPlace.{ServerPlace}
 use Rattle.prt_questions.specs.Asking.{called, said}
 use Rattle.prt_questions.specs.Sources.{AreTold, IsReply}
 use Rattle.prt_questions.specs.declared.inquiry.Inquiry.{Inquiry}

@@ -1,7 +1,7 @@
 -- What a try to change the tables of a server says.
 use Rattle.std.specs.Prelude.{◌≡◌, ℕ, Bool, List}
 use Rattle.prt_version.specs.State.{State}
-use Rattle.prt_words.specs.declared.fault.TheConstants.{FAULT}
+use Rattle.prt_args.specs.declared.fault.TheConstants.{FAULT}
 use Rattle.prt_questions.specs.Applying.{IsPlanText}
 use Rattle.prt_questions.specs.declared.apply_remote.Tried.{Tried}
 use Rattle.prt_questions.specs.declared.apply_remote.Tried.TheVariants.{Failed, Moved, Text}

@@ -11,13 +11,13 @@ use crate::asking::write_text;
 use crate::atomic::{Made, expect_atomic, send_changes};
 use crate::local::LocalNet;
 use crate::planning::{Planned, plan_changes, report_unplanned};
-use crate::remote::{NotTold, read_tables};
+use crate::remote::{ServerError, read_tables};
 use crate::telling::tell;
+use prt_args::{DONE, FAULT, ServerEnds, ServerPlace};
 use prt_command::Command;
 use prt_program::cause_message;
 use prt_session::MOST_TOGETHER;
 use prt_version::Version;
-use prt_words::{DONE, FAULT, ServerEnds, ServerPlace};
 use std::alloc::Global;
 use std::io::Write;
 
@@ -39,7 +39,7 @@ fn send<N: LocalNet>(
     number: u64,
     commands: &[Command],
     done: &mut usize,
-) -> Result<Made, NotTold>
+) -> Result<Made, ServerError>
     ensures { IfOk result (λ made. made ≡ Made.All → AreMadeInParts (IsAtomicReply N.reaches N.Stream.remaining rt.now place.now) number commands.now) }
 {
     if commands.is_empty() {

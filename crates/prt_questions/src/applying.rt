@@ -3,7 +3,7 @@ ghost use Rattle.std.specs.Prelude.{◌≡◌, ◌⊎◌, All, IfErr, IfOk, OnOk
 ghost use Rattle.prt_apply.specs.Brings.{AreAlike};
 ghost use Rattle.prt_apply.specs.Plan.{plan};
 ghost use Rattle.prt_command.specs.Storable.{IsStorable};
-ghost use Rattle.prt_front.specs.Line.{line_state};
+ghost use Rattle.prt_published.specs.Line.{line_state};
 ghost use Rattle.prt_publisher.specs.Standing.{IsQuiet};
 ghost use Rattle.prt_publisher.specs.declared.phase.Phase.TheVariants.{Ready};
 ghost use Rattle.prt_questions.specs.Applying.{AreStoredTogether, HasApplied, HasAppliedAtMost, IsMadeAt, IsMadeAtMost, IsPrinted, IsPrintedAtMost, IsScript, wanted_by};
@@ -13,21 +13,21 @@ ghost use Rattle.prt_version.specs.Change.{fold};
 
 use crate::apply_remote::apply_to_server;
 use crate::asking::{REFUSED, run_over_new, write_text};
+use crate::database_opener::{DatabaseOpener, Wanted};
 use crate::databases::DatabaseFiles;
 use crate::left::tell_left;
 use crate::local::LocalNet;
-use crate::machine::{Machine, Wanted};
 use crate::opening::{close_at, open_publisher, report_unopened};
 use crate::planning::{Planned, plan_changes, report_unplanned};
 use crate::reading::read_whole;
 use crate::telling::tell;
+use prt_args::{ApplyArgs, DONE, FAULT, Fault, Target, report};
 use prt_command::Command;
 use prt_grace::Domain;
 use prt_import::Accepted;
 use prt_program::{ReadFiles, Refusal, cause_message};
 use prt_publisher::Publisher;
 use prt_version::Version;
-use prt_words::{Applying, DONE, FAULT, Fault, Target, report};
 use sqlite::{Alter, Connection};
 use std::alloc::Global;
 use std::io::{Read, Write};
@@ -145,7 +145,7 @@ fn wanted_by(manner: Manner) -> Wanted
 /// is missing, unless changes are only printed. Returns the exit status.
 pub(crate) fn apply_to_database<
     S: Alter + Drop,
-    M: Machine<Connection<S>> + Drop,
+    M: DatabaseOpener<Connection<S>> + Drop,
     F,
     H: Wait + Copy + Drop,
     W: Write,
@@ -219,7 +219,7 @@ fn read_script<F: ReadFiles, R: Read, W: Write, E: Write>(
 /// memory or of the writer. If the changes can't be printed, they were made nevertheless.
 pub(crate) fn apply<
     S: Alter + Drop,
-    M: Machine<Connection<S>> + Drop,
+    M: DatabaseOpener<Connection<S>> + Drop,
     F: ReadFiles,
     N: LocalNet + Wait + Copy + Drop,
     R: Read,
@@ -228,7 +228,7 @@ pub(crate) fn apply<
 >(
     databases: &mut DatabaseFiles<'_, S, M, F, N>,
     alloc: Global,
-    applying: &Applying<'_>,
+    applying: &ApplyArgs<'_>,
     input: &mut R,
     output: &mut W,
     errors: &mut E,

@@ -11,22 +11,22 @@ ghost use Rattle.prt_questions.specs.Sources.{AreTold, IsFileOf, IsRead, IsReply
 ghost use Rattle.prt_replies.specs.Written.{Written};
 ghost use Rattle.prt_questions.specs.Told.{IsQueryLine, IsSaidOf};
 ghost use Rattle.prt_version.specs.State.{State};
-ghost use Rattle.prt_words.specs.declared.asking.Source.TheVariants.{Server};
+ghost use Rattle.prt_args.specs.declared.asking.Source.TheVariants.{Server};
 
+use crate::database_opener::{DatabaseOpener, Wanted};
 use crate::databases::DatabaseFiles;
 use crate::inquiry::{Inquiry, called, said};
 use crate::left::{or_left, tell_left, tell_left_out};
 use crate::local::LocalNet;
-use crate::machine::{Machine, Wanted};
 use crate::opening::{close_at, open_desk, report_unopened};
 use crate::reading::{names_for, read_whole, report_no_memory};
 use crate::remote::{Told, ask_line, read_tables};
 use crate::telling::tell;
-use prt_ask::{Answered, NotAnswered, Question, question_of};
+use prt_args::{DONE, FAULT, Form, QueryArgs, STANDARD_INPUT, ServerPlace, Source};
+use prt_ask::{AnswerError, Answered, Question, question_of};
 use prt_import::{Accepted, accept};
 use prt_program::{ReadFiles, Refusal, cause_message, question_message};
 use prt_replies::{Reply, Text, write_reply};
-use prt_words::{Asking, DONE, FAULT, Form, STANDARD_INPUT, ServerPlace, Source};
 use sqlite::{Alter, Connection};
 use std::alloc::{AllocError, Global};
 use std::fmt::Display;
@@ -56,19 +56,19 @@ fn row_message<P: Display>(
 pub(crate) fn none_message<P: Display>(
     alloc: Global,
     place: &P,
-    reason: NotAnswered,
+    reason: AnswerError,
 ) -> Result<String, AllocError> {
     match reason {
-        NotAnswered::Rule(row) => row_message(alloc, place, "rule show", row),
-        NotAnswered::Route(row) => row_message(alloc, place, "route show table all", row),
-        NotAnswered::Refused(refusal) => {
+        AnswerError::Rule(row) => row_message(alloc, place, "rule show", row),
+        AnswerError::Route(row) => row_message(alloc, place, "route show table all", row),
+        AnswerError::Refused(refusal) => {
             format!(in alloc; "prt: {place}: a change is refused over the listing: {refusal}\n")
         }
-        NotAnswered::Gap => format!(in alloc; "prt: {place}: the feed left a change out\n"),
-        NotAnswered::Change => {
+        AnswerError::Gap => format!(in alloc; "prt: {place}: the feed left a change out\n"),
+        AnswerError::Change => {
             format!(in alloc; "prt: {place}: a change has a name that no command can give\n")
         }
-        NotAnswered::NoMemory => {
+        AnswerError::NoMemory => {
             let refusal = Refusal::NoMemory;
             format!(in alloc; "prt: {place}: {refusal}\n")
         }
@@ -79,14 +79,14 @@ pub(crate) fn none_message<P: Display>(
 pub(crate) fn report_none<P: Display, W: Write, E: Write>(
     alloc: Global,
     place: &P,
-    reason: NotAnswered,
+    reason: AnswerError,
     output: &mut W,
     errors: &mut E,
 ) -> u8
     ensures status { (result ≡ REFUSED) ⊎ (result ≡ FAULT) }
     ensures unwritten { W.contents output.new ≡ W.contents output.old }
 {
-    if let NotAnswered::NoMemory = reason {
+    if let AnswerError::NoMemory = reason {
         return report_no_memory(output, errors);
     }
     tell(none_message(alloc, place, reason), errors);
@@ -129,7 +129,7 @@ pub(crate) fn write_made<W: Write, E: Write>(made: Answered, output: &mut W, err
 fn write_answer<P: Display, W: Write, E: Write>(
     alloc: Global,
     place: &P,
-    answered: Result<Answered, NotAnswered>,
+    answered: Result<Answered, AnswerError>,
     output: &mut W,
     errors: &mut E,
 ) -> u8
@@ -147,7 +147,7 @@ fn write_answer<P: Display, W: Write, E: Write>(
 /// Asks the database at a path, which is opened and closed, and returns the exit status.
 fn ask_database<
     S: Alter + Drop,
-    M: Machine<Connection<S>> + Drop,
+    M: DatabaseOpener<Connection<S>> + Drop,
     F,
     H: Wait + Copy + Drop,
     W: Write,
@@ -203,7 +203,7 @@ fn ask_server<N: LocalNet, W: Write, E: Write>(
 }
 
 /// Returns what a server said to an inquiry, with tables called as it asks.
-fn said_by(alloc: Global, told: Told, inquiry: &Inquiry<'_>) -> Result<Vec<u8>, NotAnswered>
+fn said_by(alloc: Global, told: Told, inquiry: &Inquiry<'_>) -> Result<Vec<u8>, AnswerError>
     ensures { IfOk result (λ text. IsSaidOf told inquiry.now text.items) }
 {
     match told {
@@ -326,7 +326,7 @@ fn ask_script<F: ReadFiles, R: Read, W: Write, E: Write>(
 /// Asks the tables at a source, and returns the exit status.
 pub(crate) fn ask_source<
     S: Alter + Drop,
-    M: Machine<Connection<S>> + Drop,
+    M: DatabaseOpener<Connection<S>> + Drop,
     F: ReadFiles,
     N: LocalNet + Wait + Copy + Drop,
     R: Read,
@@ -365,7 +365,7 @@ pub(crate) fn ask_source<
 /// Asks the tables at a source, or a server by the line that asks the question, and returns the exit status.
 fn ask_tables<
     S: Alter + Drop,
-    M: Machine<Connection<S>> + Drop,
+    M: DatabaseOpener<Connection<S>> + Drop,
     F: ReadFiles,
     N: LocalNet + Wait + Copy + Drop,
     R: Read,
@@ -374,7 +374,7 @@ fn ask_tables<
 >(
     databases: &mut DatabaseFiles<'_, S, M, F, N>,
     alloc: Global,
-    asking: &Asking<'_>,
+    asking: &QueryArgs<'_>,
     inquiry: &Inquiry<'_>,
     input: &mut R,
     output: &mut W,
@@ -405,7 +405,7 @@ fn ask_tables<
 /// by their line, unless JSON is wanted; its feed and its sessions both answer that.
 pub(crate) fn ask<
     S: Alter + Drop,
-    M: Machine<Connection<S>> + Drop,
+    M: DatabaseOpener<Connection<S>> + Drop,
     F: ReadFiles,
     N: LocalNet + Wait + Copy + Drop,
     R: Read,
@@ -414,7 +414,7 @@ pub(crate) fn ask<
 >(
     databases: &mut DatabaseFiles<'_, S, M, F, N>,
     alloc: Global,
-    asking: &Asking<'_>,
+    asking: &QueryArgs<'_>,
     input: &mut R,
     output: &mut W,
     errors: &mut E,

@@ -6,20 +6,20 @@ ghost use Rattle.prt_questions.specs.Asking.{IsCutOff};
 ghost use Rattle.prt_questions.specs.Sources.{Gives, IsFileOf, IsRead, after, path_of, rest_by, sources_of};
 
 use crate::asking::{REFUSED, write_text};
+use crate::database_opener::DatabaseOpener;
 use crate::databases::DatabaseFiles;
 use crate::impact::report_undivided;
 use crate::local::LocalNet;
-use crate::machine::Machine;
 use crate::reading::{is_newline, read_whole, report_no_memory};
 use crate::tables::{Tables, tables_at};
 use crate::telling::tell;
+use prt_args::{AssertArgs, DONE, FAULT, STANDARD_INPUT};
 use prt_claims::{
     BadClaim, BadLine, Breach, Checked, ClaimFault, bad_word, check_claims, push_breach_line,
 };
 use prt_explain::explanation_text;
 use prt_program::{ReadFiles, Refusal, complaint, shown_text};
 use prt_version::Version;
-use prt_words::{Asserting, DONE, FAULT, STANDARD_INPUT};
 use sqlite::{Alter, Connection};
 use std::alloc::{AllocError, Global};
 use std::io::{Read, Write};
@@ -159,7 +159,7 @@ fn assert_over<F: ReadFiles, R: Read, W: Write, E: Write>(
     files: &F,
     alloc: Global,
     tables: &Tables,
-    asserting: &Asserting<'_>,
+    asserting: &AssertArgs<'_>,
     input: &mut R,
     output: &mut W,
     errors: &mut E,
@@ -200,7 +200,7 @@ fn assert_over<F: ReadFiles, R: Read, W: Write, E: Write>(
 /// kinds. No rule and no route changes.
 pub(crate) fn assert_claims<
     S: Alter + Drop,
-    M: Machine<Connection<S>> + Drop,
+    M: DatabaseOpener<Connection<S>> + Drop,
     F: ReadFiles,
     N: LocalNet + Wait + Copy + Drop,
     R: Read,
@@ -209,7 +209,7 @@ pub(crate) fn assert_claims<
 >(
     databases: &mut DatabaseFiles<'_, S, M, F, N>,
     alloc: Global,
-    asserting: &Asserting<'_>,
+    asserting: &AssertArgs<'_>,
     input: &mut R,
     output: &mut W,
     errors: &mut E,

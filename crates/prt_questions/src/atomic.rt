@@ -7,14 +7,14 @@ ghost use Rattle.prt_session.specs.Atomic.{accepted_after};
 
 use crate::local::{LocalNet, Socket};
 use crate::reading::is_newline;
-use crate::remote::{NotTold, PATIENCE};
+use crate::remote::{PATIENCE, ServerError};
 use itoa::Buffer;
+use prt_args::ServerPlace;
 use prt_command::Command;
 use prt_diff::commands_text;
 use prt_feed::number_of;
 use prt_program::Refusal;
 use prt_session::write_accepted;
-use prt_words::ServerPlace;
 use std::alloc::{AllocError, Global};
 use std::io::Read;
 use std::net::{OpenStream, Shutdown};
@@ -41,7 +41,7 @@ pub(crate) fn expect_atomic<N: LocalNet>(
     rt: &N,
     alloc: Global,
     place: &ServerPlace<'_>,
-) -> Result<(), NotTold> {
+) -> Result<(), ServerError> {
     let patience = Duration::from_secs(PATIENCE);
     let mut stream = rt.reach(alloc, place, Socket::Atomic, patience, NO_NUMBER)?;
     stream.shutdown(Shutdown::Write)?;
@@ -50,17 +50,17 @@ pub(crate) fn expect_atomic<N: LocalNet>(
     if count == 1 && byte[0] == MOVED_BYTE {
         return Ok(());
     }
-    Err(NotTold::NoAtomic)
+    Err(ServerError::NoAtomic)
 }
 
 /// Builds what a server is sent to make these commands together: how many there are, so that a script that is cut off changes
 /// nothing, and a line for each.
-pub(crate) fn submission_text(alloc: Global, commands: &[Command]) -> Result<Vec<u8>, NotTold>
+pub(crate) fn submission_text(alloc: Global, commands: &[Command]) -> Result<Vec<u8>, ServerError>
     ensures { IfOk result (λ text. text.items ≡ submission_text commands.now) }
 {
     // Each command that was read or planned has a line, so only memory may lack.
     let Ok(lines) = commands_text(alloc, commands) else {
-        return Err(NotTold::Tables(Refusal::NoMemory));
+        return Err(ServerError::Tables(Refusal::NoMemory));
     };
     let mut digits = Buffer::new();
     let mut text = Vec::from_slice(alloc, b"commands ")?;
@@ -71,7 +71,7 @@ pub(crate) fn submission_text(alloc: Global, commands: &[Command]) -> Result<Vec
 }
 
 /// Builds what a server is sent to make these commands together over its tables at a number, and over no others.
-fn change_text(alloc: Global, number: u64, commands: &[Command]) -> Result<Vec<u8>, NotTold>
+fn change_text(alloc: Global, number: u64, commands: &[Command]) -> Result<Vec<u8>, ServerError>
     ensures { IfOk result (λ text. text.items ≡ change_text number commands.now) }
 {
     let lines = submission_text(alloc, commands)?;
@@ -84,7 +84,7 @@ fn change_text(alloc: Global, number: u64, commands: &[Command]) -> Result<Vec<u
 }
 
 /// Builds the reply that accepts as many commands, with the numbers after this one.
-fn accepted_text(alloc: Global, number: u64, count: usize) -> Result<Vec<u8>, NotTold>
+fn accepted_text(alloc: Global, number: u64, count: usize) -> Result<Vec<u8>, ServerError>
     requires { number + count < 2 ^ 64 }
     ensures { IfOk result (λ text. text.items ≡ replies_text (accepted_after number count)) }
 {
@@ -92,7 +92,7 @@ fn accepted_text(alloc: Global, number: u64, count: usize) -> Result<Vec<u8>, No
     if write_accepted(&mut text, number, count) {
         Ok(text)
     } else {
-        Err(NotTold::Tables(Refusal::NoMemory))
+        Err(ServerError::Tables(Refusal::NoMemory))
     }
 }
 
@@ -107,20 +107,20 @@ pub(crate) fn exchange<N: LocalNet>(
     alloc: Global,
     place: &ServerPlace<'_>,
     sent: &[u8],
-) -> Result<Vec<u8>, NotTold>
+) -> Result<Vec<u8>, ServerError>
     ensures { IfOk result (λ reply. IsAtomicReply N.reaches N.Stream.remaining rt.now place.now sent.now reply.items) }
 {
     let patience = Duration::from_secs(PATIENCE);
     let mut stream = rt.reach(alloc, place, Socket::Atomic, patience, sent)?;
     if stream.shutdown(Shutdown::Write).is_err() {
-        return Err(NotTold::Unknown);
+        return Err(ServerError::Unknown);
     }
     let reply_in = Some(Duration::from_secs(REPLY_PATIENCE));
     let _patient = stream.set_read_timeout(reply_in).is_ok();
     let mut reply = Vec::new(alloc);
     match stream.read_to_end(&mut reply) {
         Ok(_) => Ok(reply),
-        Err(_) => Err(NotTold::Unknown),
+        Err(_) => Err(ServerError::Unknown),
     }
 }
 
@@ -136,7 +136,7 @@ fn number_before(reply: &[u8]) -> Option<u64> {
 /// # Errors
 ///
 /// `Tables` with `NoMemory`.
-pub(crate) fn accepts_each(alloc: Global, reply: &[u8], count: usize) -> Result<bool, NotTold>
+pub(crate) fn accepts_each(alloc: Global, reply: &[u8], count: usize) -> Result<bool, ServerError>
     ensures { IfOk result (λ accepts. accepts ≡ true → (number : ℕ) × (reply.now ≡ replies_text (accepted_after number count))) }
 {
     let Some(number) = number_before(reply) else {
@@ -163,15 +163,15 @@ pub(crate) enum Made {
 /// # Errors
 ///
 /// `Unknown` if the reply doesn't say it, and the server's refusal.
-fn not_accepted(alloc: Global, reply: &[u8]) -> Result<Made, NotTold>
+fn not_accepted(alloc: Global, reply: &[u8]) -> Result<Made, ServerError>
     ensures { IfOk result (λ made. made ≡ Made.Moved) }
 {
     if reply.starts_with(MOVED) {
         Ok(Made::Moved)
     } else if reply.starts_with(b"error ") && reply.ends_with(b"\n") {
-        Err(NotTold::Refused(refused_text(alloc, reply)?))
+        Err(ServerError::Refused(refused_text(alloc, reply)?))
     } else {
-        Err(NotTold::Unknown)
+        Err(ServerError::Unknown)
     }
 }
 
@@ -187,13 +187,13 @@ pub(crate) fn send_changes<N: LocalNet>(
     place: &ServerPlace<'_>,
     number: u64,
     commands: &[Command],
-) -> Result<Made, NotTold>
+) -> Result<Made, ServerError>
     ensures made { IfOk result (λ made. made ≡ Made.All → AreMade (IsAtomicReply N.reaches N.Stream.remaining rt.now place.now) number commands.now) }
     ensures numbers { OnOk result (number + length commands.now < 2 ^ 64) }
 {
     let count = commands.len();
     if number > u64::MAX - count as u64 {
-        return Err(NotTold::Tables(Refusal::CountFull));
+        return Err(ServerError::Tables(Refusal::CountFull));
     }
     // Memory for both texts is taken before anything is sent.
     let sent = change_text(alloc, number, commands)?;

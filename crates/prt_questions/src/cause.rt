@@ -2,7 +2,7 @@
 ghost use Rattle.sqlite.specs.Held.{Held};
 ghost use Rattle.prt_questions.specs.Closing.{IsOnlyRead};
 
-use crate::machine::{Machine, Wanted};
+use crate::database_opener::{DatabaseOpener, Wanted};
 use prt_program::Refusal;
 use prt_reasons::{Reason, columns_reason, rows_reason};
 use sqlite::{Alter, Connection, Error as LibraryError, ErrorCode};
@@ -40,7 +40,7 @@ fn tables_reason<S: Alter>(conn: &mut Connection<S>, refusal: Refusal) -> Option
 
 /// Closes a database that was refused, and returns what of its tables was, if that is known. What the closing answers says
 /// no more of that.
-pub(crate) fn close_refused<S: Alter + Drop, M: Machine<Connection<S>>>(
+pub(crate) fn close_refused<S: Alter + Drop, M: DatabaseOpener<Connection<S>>>(
     machine: &mut M,
     mut conn: Connection<S>,
     refusal: Refusal,
@@ -66,7 +66,7 @@ fn library_cause(wanted: Wanted, error: LibraryError) -> Cause {
 
 /// Finds out why a database could not be opened, if that is known. The machine is asked first, since the library says no
 /// more of a file than that it can't be opened.
-pub(crate) fn cause_of<C, M: Machine<C>>(
+pub(crate) fn cause_of<C, M: DatabaseOpener<C>>(
     machine: &M,
     path: &str,
     wanted: Wanted,

@@ -2,7 +2,7 @@
 ghost use Rattle.std.specs.Prelude.{◌≡◌};
 
 use crate::cause::Cause;
-use crate::machine::{Machine, Wanted};
+use crate::database_opener::{DatabaseOpener, Wanted};
 use crate::opening::open_desk;
 use prt_desk::StoreDesk;
 use prt_program::{Databases, Refusal};
@@ -16,7 +16,7 @@ use std::sync::Wait;
 pub struct DatabaseFiles<
     'a,
     S: Alter + Drop,
-    M: Machine<Connection<S>> + Drop,
+    M: DatabaseOpener<Connection<S>> + Drop,
     F,
     H: Wait + Copy + Drop,
 > {
@@ -30,13 +30,13 @@ pub struct DatabaseFiles<
     store: PhantomData<S>,
 }
 
-impl<'a, S: Alter + Drop, M: Machine<Connection<S>> + Drop, F, H: Wait + Copy + Drop> DatabaseFiles<
+impl<
     'a,
-    S,
-    M,
+    S: Alter + Drop,
+    M: DatabaseOpener<Connection<S>> + Drop,
     F,
-    H,
-> {
+    H: Wait + Copy + Drop,
+> DatabaseFiles<'a, S, M, F, H> {
     /// Makes the databases of a machine, of which none is open.
     pub fn new(machine: M, files: &'a F, rt: H) -> DatabaseFiles<'a, S, M, F, H>
         ensures { result.machine ≡ machine }
@@ -50,12 +50,17 @@ impl<'a, S: Alter + Drop, M: Machine<Connection<S>> + Drop, F, H: Wait + Copy + 
     }
 }
 
-impl<'a, S: Alter + Drop, M: Machine<Connection<S>> + Drop, F, H: Wait + Copy + Drop> Databases
-    for DatabaseFiles<'a, S, M, F, H> {
+impl<
+    'a,
+    S: Alter + Drop,
+    M: DatabaseOpener<Connection<S>> + Drop,
+    F,
+    H: Wait + Copy + Drop,
+> Databases for DatabaseFiles<'a, S, M, F, H> {
     ghost use Rattle.prt_desk.specs.StoreDesk.{IsKept, LeavesFound};
     ghost use Rattle.prt_questions.specs.Closing.{LeavesNoneOpen};
     ghost use Rattle.prt_publisher.specs.Openings.{OpensOne};
-    ghost use Rattle.prt_questions.specs.declared.machine.Wanted.TheVariants.{Any};
+    ghost use Rattle.prt_questions.specs.declared.database_opener.Wanted.TheVariants.{Any};
     ghost use Rattle.prt_version.specs.Sound.{IsSound};
 
     type Opened = StoreDesk<S, H>;

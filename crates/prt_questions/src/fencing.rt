@@ -5,11 +5,11 @@ ghost use Rattle.prt_questions.specs.Fencing.{IsFenceOf, priority_in, range_at, 
 
 use crate::left::is_kernels;
 use crate::reading::host_names;
+use prt_args::{NumberSpan, Reach};
 use prt_diff::{Fence, NumberRange};
-use prt_import::{HostNames, Left, route_key, rule_priority};
+use prt_import::{HostNames, OmittedLine, route_key, rule_priority};
 use prt_program::ReadFiles;
 use prt_route::RouteKey;
-use prt_words::{NumberSpan, Reach};
 use std::alloc::{AllocError, Global};
 
 /// Collects the ranges of the numbers that are named.
@@ -48,14 +48,14 @@ fn protocol_ranges(alloc: Global, protocols: &[u8]) -> Result<Vec<NumberRange>, 
 }
 
 /// Finds the priority of the rule that a line of a listing is about.
-fn priority_in(line: &Left) -> Option<u32>
+fn priority_in(line: &OmittedLine) -> Option<u32>
     ensures { result ≡ priority_in line.now }
 {
     rule_priority(&line.text)
 }
 
 /// Finds the priority of the rule that can't be kept, unless the kernel makes the line itself.
-fn unread_priority(line: &Left) -> Option<NumberRange>
+fn unread_priority(line: &OmittedLine) -> Option<NumberRange>
     ensures { result ≡ unread_priority line.now }
 {
     if is_kernels(line) {
@@ -66,7 +66,7 @@ fn unread_priority(line: &Left) -> Option<NumberRange>
 }
 
 /// Finds the key of the route that can't be kept, unless the kernel makes the line itself.
-fn unread_key(names: &HostNames, line: &Left) -> Option<RouteKey>
+fn unread_key(names: &HostNames, line: &OmittedLine) -> Option<RouteKey>
     ensures { result ≡ unread_key (known_names names.now) line.now }
 {
     if is_kernels(line) {
@@ -80,7 +80,7 @@ fn unread_key(names: &HostNames, line: &Left) -> Option<RouteKey>
 
 /// Collects the priorities of the rules that can't be kept.
 #[tactic(auto, using(crate::proofs::Picked::picks_none, crate::proofs::Picked::picks_some))]
-fn unread_priorities(alloc: Global, unread: &[Left]) -> Result<Vec<NumberRange>, AllocError>
+fn unread_priorities(alloc: Global, unread: &[OmittedLine]) -> Result<Vec<NumberRange>, AllocError>
     ensures { IfOk result (λ ranges. ranges.items ≡ filter_map unread_priority unread.now) }
 {
     let mut ranges = Vec::new(alloc);
@@ -98,7 +98,7 @@ fn unread_priorities(alloc: Global, unread: &[Left]) -> Result<Vec<NumberRange>,
 fn unread_keys(
     alloc: Global,
     names: &HostNames,
-    unread: &[Left],
+    unread: &[OmittedLine],
 ) -> Result<Vec<RouteKey>, AllocError>
     ensures { IfOk result (λ keys. keys.items ≡ filter_map (unread_key (known_names names.now)) unread.now) }
 {
@@ -120,7 +120,7 @@ pub(crate) fn fence_beside<F: ReadFiles>(
     files: &F,
     alloc: Global,
     reach: &Reach,
-    unread: &[Left],
+    unread: &[OmittedLine],
 ) -> Result<Fence, AllocError>
     ensures { IfOk result (IsFenceOf reach.now unread.now) }
 {

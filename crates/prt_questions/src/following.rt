@@ -16,10 +16,10 @@ use crate::left::or_left;
 use crate::local::LocalNet;
 use crate::remote::{is_there, open_feed};
 use crate::telling::tell;
+use prt_args::{DONE, FAULT, FollowArgs, ServerPlace, WaitArgs};
 use prt_ask::{Answered, FollowEnd, Mirror, follow};
-use prt_feed::NotRead;
+use prt_feed::OpeningError;
 use prt_program::{ReadFiles, cause_message};
-use prt_words::{DONE, FAULT, Following, ServerPlace, Waiting};
 use std::alloc::Global;
 use std::io::{BufReader, Read, Write};
 use std::rt::Clock;
@@ -35,7 +35,7 @@ const PAUSE: u64 = 100;
 /// Reports why following a server ended, unless the reader of the lines has gone.
 fn tell_end<E: Write>(alloc: Global, place: &ServerPlace<'_>, end: FollowEnd, errors: &mut E) {
     match end {
-        FollowEnd::Feed(NotRead::CutOff) => {
+        FollowEnd::Feed(OpeningError::CutOff) => {
             tell(cause_message(alloc, place, &FEED_ENDED), errors);
         }
         FollowEnd::Feed(reason) => tell(cause_message(alloc, place, &reason), errors),
@@ -109,7 +109,7 @@ pub(crate) fn follow_server<F: ReadFiles, N: LocalNet, R: Read, W: Write, E: Wri
     files: &F,
     rt: &N,
     alloc: Global,
-    following: &Following<'_>,
+    following: &FollowArgs<'_>,
     input: &mut R,
     output: &mut W,
     errors: &mut E,
@@ -148,7 +148,7 @@ fn time<N: Clock>(rt: &N) -> Duration {
 pub(crate) fn wait_for<N: LocalNet + Clock, E: Write>(
     rt: &N,
     alloc: Global,
-    waiting: &Waiting<'_>,
+    waiting: &WaitArgs<'_>,
     errors: &mut E,
 ) -> u8
     ensures status { (result ≡ DONE) ⊎ (result ≡ FAULT) }

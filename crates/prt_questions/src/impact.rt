@@ -9,20 +9,20 @@ ghost use Rattle.prt_questions.specs.Asking.{IsCutOff};
 ghost use Rattle.prt_questions.specs.Sources.{Gives, IsFileOf, IsRead, after, path_of, rest_by, sources_of};
 
 use crate::asking::{REFUSED, write_text};
+use crate::database_opener::DatabaseOpener;
 use crate::databases::DatabaseFiles;
 use crate::left::{or_left, tell_left};
 use crate::local::LocalNet;
-use crate::machine::Machine;
 use crate::reading::{read_whole, report_no_memory};
 use crate::tables::{Tables, tables_at};
 use crate::telling::tell;
+use prt_args::{DONE, Exactness, FAULT, Form, ImpactArgs};
 use prt_impact::{Group, impact, impact_json, impact_text};
 use prt_import::accept_over;
 use prt_partition::{MOST_BOXES, Sameness};
 use prt_program::{ReadFiles, Refusal};
 use prt_refusals::OnRefusal;
 use prt_version::Version;
-use prt_words::{DONE, Exactness, FAULT, Form, Rehearsing};
 use sqlite::{Alter, Connection};
 use std::alloc::Global;
 use std::io::{Read, Write};
@@ -79,7 +79,7 @@ fn write_impact<W: Write, E: Write>(
     alloc: Global,
     before: &Version,
     after: &Version,
-    rehearsing: &Rehearsing<'_>,
+    rehearsing: &ImpactArgs<'_>,
     output: &mut W,
     errors: &mut E,
 ) -> u8
@@ -117,7 +117,7 @@ fn rehearse_over<F: ReadFiles, R: Read, W: Write, E: Write>(
     files: &F,
     alloc: Global,
     tables: &Tables,
-    rehearsing: &Rehearsing<'_>,
+    rehearsing: &ImpactArgs<'_>,
     input: &mut R,
     output: &mut W,
     errors: &mut E,
@@ -151,7 +151,7 @@ fn rehearse_over<F: ReadFiles, R: Read, W: Write, E: Write>(
 /// too many kinds. No rule and no route changes.
 pub(crate) fn rehearse<
     S: Alter + Drop,
-    M: Machine<Connection<S>> + Drop,
+    M: DatabaseOpener<Connection<S>> + Drop,
     F: ReadFiles,
     N: LocalNet + Wait + Copy + Drop,
     R: Read,
@@ -160,7 +160,7 @@ pub(crate) fn rehearse<
 >(
     databases: &mut DatabaseFiles<'_, S, M, F, N>,
     alloc: Global,
-    rehearsing: &Rehearsing<'_>,
+    rehearsing: &ImpactArgs<'_>,
     input: &mut R,
     output: &mut W,
     errors: &mut E,

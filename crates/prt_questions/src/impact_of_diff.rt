@@ -6,19 +6,19 @@ ghost use Rattle.prt_questions.specs.Asking.{IsAskedOf, IsCutOff, IsWholeChange,
 ghost use Rattle.prt_questions.specs.Sources.{sources_of};
 
 use crate::asking::{REFUSED, report_none, write_made};
+use crate::database_opener::DatabaseOpener;
 use crate::databases::DatabaseFiles;
 use crate::impact::report_undivided;
 use crate::local::LocalNet;
-use crate::machine::Machine;
 use crate::reading::report_no_memory;
 use crate::tables::tables_at;
+use prt_args::{DONE, FAULT, Source};
 use prt_ask::{Answered, Comparison, Question, answer};
 use prt_impact::{Group, impact, push_group_line};
 use prt_import::accept_over;
 use prt_partition::Sameness;
 use prt_program::{ReadFiles, Refusal};
 use prt_version::Version;
-use prt_words::{DONE, FAULT, Source};
 use sqlite::{Alter, Connection};
 use std::alloc::{AllocError, Global};
 use std::io::{Read, Write};
@@ -97,7 +97,7 @@ fn write_difference<W: Write, E: Write>(
 /// returns the exit status.
 pub(crate) fn diff_with_impact<
     S: Alter + Drop,
-    M: Machine<Connection<S>> + Drop,
+    M: DatabaseOpener<Connection<S>> + Drop,
     F: ReadFiles,
     N: LocalNet + Wait + Copy + Drop,
     R: Read,

@@ -8,25 +8,27 @@ ghost use Rattle.prt_questions.specs.Importing.{HasImported, HasImportedAtMost, 
 ghost use Rattle.prt_import.specs.Imported.{IsImportOf};
 ghost use Rattle.prt_import.specs.Lines.{lines_of};
 ghost use Rattle.prt_import.specs.TableNames.{KnownNames};
-ghost use Rattle.prt_words.specs.declared.asking.Shown.TheVariants as shows;
+ghost use Rattle.prt_args.specs.declared.asking.Shown.TheVariants as shows;
 
 use crate::applying::{PLAIN, apply_to_database};
 use crate::asking::{REFUSED, ask_source, write_text};
+use crate::database_opener::DatabaseOpener;
 use crate::databases::DatabaseFiles;
 use crate::fencing::fence_beside;
 use crate::impact_of_diff::diff_with_impact;
 use crate::inquiry::Inquiry;
 use crate::left::{is_kernels, or_left, tell_left};
 use crate::local::LocalNet;
-use crate::machine::Machine;
 use crate::reading::{host_names, read_whole, report_no_memory, report_unread};
+use prt_args::{DONE, DiffArgs, FAULT, Form, ImportArgs, Labels, Reach, Shown, Source};
 use prt_ask::{Comparison, Question};
 use prt_diff::Fence;
-use prt_import::{Accepted, Imported, Left, Names, accept, check_listing, import, next_line};
-use prt_ip_json::{NotListed, is_json, listing_of};
+use prt_import::{
+    Accepted, Imported, Names, OmittedLine, accept, check_listing, import, next_line,
+};
+use prt_ip_json::{ListingError, is_json, listing_of};
 use prt_program::{ReadFiles, Refusal};
 use prt_version::Version;
-use prt_words::{DONE, Diffing, FAULT, Form, Importing, Labels, Reach, Shown, Source};
 use sqlite::{Alter, Connection};
 use std::alloc::Global;
 use std::io::{Read, Write};
@@ -42,7 +44,7 @@ const COLOURS: &str = "the listing has colours: take one of `ip -c=never`";
 const NONE_KNOWN: &str = "no line of the listing is a route or a rule that can be kept";
 
 /// Returns the lines of what `ip` printed, also if that is the JSON of `ip -j`.
-fn lines_of(alloc: Global, text: Vec<u8>) -> Result<Vec<u8>, NotListed>
+fn lines_of(alloc: Global, text: Vec<u8>) -> Result<Vec<u8>, ListingError>
     ensures { IfOk result (λ lines. AreLinesOf text.items lines.items) }
 {
     if is_json(&text) {
@@ -71,7 +73,7 @@ fn keep_lines<F: ReadFiles, E: Write>(
     alloc: Global,
     lines: &[u8],
     errors: &mut E,
-) -> Result<(Accepted, u8, Vec<Left>), Refusal>
+) -> Result<(Accepted, u8, Vec<OmittedLine>), Refusal>
     ensures made { IfOk result (λ read. IsMadeOf lines.now read.2.items read.0) }
     ensures status { IfOk result (λ read. (read.1 ≡ DONE) ⊎ (read.1 ≡ REFUSED)) }
     ensures kept { IfOk result (λ read. read.1 ≡ DONE → AreKept read.2.items read.0) }
@@ -117,14 +119,14 @@ fn adds_any(script: &[u8]) -> bool
 }
 
 /// Checks whether the kernel makes one of the lines itself.
-fn is_any_kernels(left: &[Left]) -> bool
+fn is_any_kernels(left: &[OmittedLine]) -> bool
     ensures { result ≡ list_any is_kernels left.now }
 {
     left.iter().any(|line| is_kernels(line))
 }
 
 /// Checks whether some line of a listing is known: a rule or a route of it is kept, or the kernel makes one itself.
-fn is_any_known(left: &[Left], accepted: &Accepted) -> bool
+fn is_any_known(left: &[OmittedLine], accepted: &Accepted) -> bool
     ensures { result ≡ is_any_known left.now accepted.now }
 {
     adds_any(&accepted.script) || is_any_kernels(left)
@@ -142,7 +144,7 @@ pub(crate) fn read_listing<F: ReadFiles, R: Read, W: Write, E: Write>(
     input: &mut R,
     output: &mut W,
     errors: &mut E,
-) -> Result<(Accepted, u8, Vec<Left>), u8>
+) -> Result<(Accepted, u8, Vec<OmittedLine>), u8>
     ensures made { IfOk result (λ read. IsListing (IsRead (IsFileOf F.opens F.Opened.remaining files.now) (R.remaining input.old) (path_of file.entry)) read.2.items read.0) }
     ensures status { IfOk result (λ read. (read.1 ≡ DONE) ⊎ (read.1 ≡ REFUSED)) }
     ensures kept { IfOk result (λ read. read.1 ≡ DONE → AreKept read.2.items read.0) }
@@ -153,7 +155,7 @@ pub(crate) fn read_listing<F: ReadFiles, R: Read, W: Write, E: Write>(
     let text = read_whole(files, alloc, file, input, output, errors)?;
     let lines = match lines_of(alloc, text) {
         Ok(lines) => lines,
-        Err(NotListed::NoMemory) => return Err(report_no_memory(output, errors)),
+        Err(ListingError::NoMemory) => return Err(report_no_memory(output, errors)),
         Err(reason) => return Err(report_unread(alloc, file, &reason, output, errors)),
     };
     if has_colours(&lines) {
@@ -217,7 +219,7 @@ pub(crate) fn read_fenced<F: ReadFiles, R: Read, W: Write, E: Write>(
 /// Prints a script, or makes the tables of the database at a path those that it makes. Returns the exit status.
 fn print_or_make<
     S: Alter + Drop,
-    M: Machine<Connection<S>> + Drop,
+    M: DatabaseOpener<Connection<S>> + Drop,
     F,
     N: Wait + Copy + Drop,
     W: Write,
@@ -251,7 +253,7 @@ fn print_or_make<
 /// changes can't be written.
 pub(crate) fn import_listing<
     S: Alter + Drop,
-    M: Machine<Connection<S>> + Drop,
+    M: DatabaseOpener<Connection<S>> + Drop,
     F: ReadFiles,
     N: LocalNet + Wait + Copy + Drop,
     R: Read,
@@ -260,7 +262,7 @@ pub(crate) fn import_listing<
 >(
     databases: &mut DatabaseFiles<'_, S, M, F, N>,
     alloc: Global,
-    importing: &Importing<'_>,
+    importing: &ImportArgs<'_>,
     input: &mut R,
     output: &mut W,
     errors: &mut E,
@@ -295,7 +297,7 @@ pub(crate) fn import_listing<
 /// Finds what differs at a source, prints nothing of it, and returns the exit status: 1 if anything differs.
 fn compare<
     S: Alter + Drop,
-    M: Machine<Connection<S>> + Drop,
+    M: DatabaseOpener<Connection<S>> + Drop,
     F: ReadFiles,
     N: LocalNet + Wait + Copy + Drop,
     R: Read,
@@ -328,7 +330,7 @@ fn compare<
 /// or whether anything differs at all. It returns the exit status.
 fn show_difference<
     S: Alter + Drop,
-    M: Machine<Connection<S>> + Drop,
+    M: DatabaseOpener<Connection<S>> + Drop,
     F: ReadFiles,
     N: LocalNet + Wait + Copy + Drop,
     R: Read,
@@ -337,7 +339,7 @@ fn show_difference<
 >(
     databases: &mut DatabaseFiles<'_, S, M, F, N>,
     alloc: Global,
-    diffing: &Diffing<'_>,
+    diffing: &DiffArgs<'_>,
     comparison: &Comparison<'_>,
     input: &mut R,
     output: &mut W,
@@ -371,7 +373,7 @@ fn show_difference<
 /// 3 as of `ask` and `import_listing`.
 pub(crate) fn diff<
     S: Alter + Drop,
-    M: Machine<Connection<S>> + Drop,
+    M: DatabaseOpener<Connection<S>> + Drop,
     F: ReadFiles,
     N: LocalNet + Wait + Copy + Drop,
     R: Read,
@@ -380,7 +382,7 @@ pub(crate) fn diff<
 >(
     databases: &mut DatabaseFiles<'_, S, M, F, N>,
     alloc: Global,
-    diffing: &Diffing<'_>,
+    diffing: &DiffArgs<'_>,
     input: &mut R,
     output: &mut W,
     errors: &mut E,

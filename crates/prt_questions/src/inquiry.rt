@@ -4,10 +4,10 @@ ghost use Rattle.prt_ask.specs.Answers.{AreNotes};
 ghost use Rattle.prt_questions.specs.Asking.{called, said, text_form};
 ghost use Rattle.prt_import.specs.TableNames.{names_of};
 
-use prt_ask::{Answered, NotAnswered, Question, answer};
+use prt_args::{Form, Labels};
+use prt_ask::{AnswerError, Answered, Question, answer};
 use prt_import::{Names, Text, with_names};
 use prt_version::Version;
-use prt_words::{Form, Labels};
 use std::alloc::Global;
 
 /// A question, and how its answer calls tables.
@@ -35,7 +35,7 @@ pub(crate) fn called(
     alloc: Global,
     inquiry: &Inquiry<'_>,
     text: Vec<u8>,
-) -> Result<Vec<u8>, NotAnswered>
+) -> Result<Vec<u8>, AnswerError>
     ensures { IfOk result (λ made. made.items ≡ called inquiry.now.labels inquiry.now.form (names_of inquiry.now.names.now) text.items) }
 {
     let Labels::Names = inquiry.labels else {
@@ -43,7 +43,7 @@ pub(crate) fn called(
     };
     match with_names(alloc, inquiry.names, text_form(inquiry.form), &text) {
         Ok(named) => Ok(named),
-        Err(_) => Err(NotAnswered::NoMemory),
+        Err(_) => Err(AnswerError::NoMemory),
     }
 }
 
@@ -56,7 +56,7 @@ pub(crate) fn said(
     alloc: Global,
     version: &Version,
     inquiry: &Inquiry<'_>,
-) -> Result<Answered, NotAnswered>
+) -> Result<Answered, AnswerError>
     ensures text { IfOk result (λ made. made.text.items ≡ said inquiry.now version.now) }
     ensures notes { IfOk result (λ made. AreNotes inquiry.now.question version.now made.notes) }
 {

@@ -8,10 +8,10 @@ use crate::asking::REFUSED;
 use crate::reading::is_newline;
 use crate::telling::tell;
 use prt_addr::Addr;
+use prt_args::DONE;
 use prt_ask::Question;
 use prt_command::Query;
-use prt_import::{Left, Reason, left_out};
-use prt_words::DONE;
+use prt_import::{OmittedLine, Reason, left_out};
 use std::alloc::{AllocError, Global};
 use std::io::Write;
 
@@ -22,7 +22,11 @@ const COMMENT: &[u8] = b"# left out:";
 const KERNELS: &[u8] = b"routes that the kernel makes itself";
 
 /// Makes the message of a line that is left out, or of what is left out of one, with the name of its file if it has one.
-fn left_message(alloc: Global, file: Option<&str>, left: &Left) -> Result<String, AllocError> {
+fn left_message(
+    alloc: Global,
+    file: Option<&str>,
+    left: &OmittedLine,
+) -> Result<String, AllocError> {
     match file {
         Some(file) => format!(in alloc; "prt: {file}: {left}\n"),
         None => format!(in alloc; "prt: {left}\n"),
@@ -30,21 +34,21 @@ fn left_message(alloc: Global, file: Option<&str>, left: &Left) -> Result<String
 }
 
 /// Checks whether the kernel makes a line itself.
-pub(crate) fn is_kernels(line: &Left) -> bool
+pub(crate) fn is_kernels(line: &OmittedLine) -> bool
     ensures { result ≡ is_kernels line.now }
 {
     matches!(line.reason, Reason::Kernel)
 }
 
 /// Checks whether the kernel makes each of the lines itself.
-fn are_kernels(left: &[Left]) -> bool
+fn are_kernels(left: &[OmittedLine]) -> bool
     ensures { result ≡ list_all is_kernels left.now }
 {
     left.iter().all(|line| is_kernels(line))
 }
 
 /// Reports what was left out, except what the kernel makes itself.
-fn tell_others<E: Write>(alloc: Global, file: Option<&str>, left: &[Left], errors: &mut E) {
+fn tell_others<E: Write>(alloc: Global, file: Option<&str>, left: &[OmittedLine], errors: &mut E) {
     for line in left {
         if !is_kernels(line) {
             tell(left_message(alloc, file, line), errors);
@@ -56,7 +60,7 @@ fn tell_others<E: Write>(alloc: Global, file: Option<&str>, left: &[Left], error
 pub(crate) fn tell_left<E: Write>(
     alloc: Global,
     file: Option<&str>,
-    left: &[Left],
+    left: &[OmittedLine],
     errors: &mut E,
 ) -> u8
     ensures status { (result ≡ DONE) ⊎ (result ≡ REFUSED) }

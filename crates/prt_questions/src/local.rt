@@ -1,7 +1,7 @@
 //! Unix sockets as connections of the network.
 ghost use Rattle.std.specs.Prelude.{IfOk};
 
-use prt_words::ServerPlace;
+use prt_args::ServerPlace;
 use std::alloc::Global;
 use std::io::{self, Write};
 use std::net::{Net, OpenStream, SocketAddr, TcpListener, TcpStream};
@@ -37,7 +37,7 @@ impl Socket {
 /// A network whose connections may come by Unix sockets too.
 pub trait LocalNet: Net {
     ghost use Rattle.std.specs.Prelude.{List, ℕ};
-    ghost use Rattle.prt_words.specs.declared.server_place.ServerPlace.{ServerPlace as Place};
+    ghost use Rattle.prt_args.specs.declared.server_place.ServerPlace.{ServerPlace as Place};
     ghost use Rattle.prt_questions.specs.declared.local.Socket.{Socket};
 
     /// That a connection to this socket of the server at a place, over which these bytes were sent, may be this.

@@ -2,7 +2,7 @@
 ghost use Rattle.std.specs.Prelude.{◌≡◌, IfErr, IfOk, OnOk};
 ghost use Rattle.prt_refusals.specs.Opening.{IsOpenRefusal};
 ghost use Rattle.prt_desk.specs.StoreDesk.{StandsFor, published};
-ghost use Rattle.prt_front.specs.Line.{line_state};
+ghost use Rattle.prt_published.specs.Line.{line_state};
 ghost use Rattle.prt_questions.specs.Closing.{LeavesNoneOpen};
 ghost use Rattle.prt_publisher.specs.Openings.{OpensOne};
 ghost use Rattle.prt_publisher.specs.Standing.{IsQuiet};
@@ -10,13 +10,13 @@ ghost use Rattle.prt_session.specs.Open.{IsOpenOn};
 ghost use Rattle.prt_version.specs.Sound.{IsSound};
 
 use crate::cause::{Cause, cause_of, close_refused};
-use crate::machine::{Machine, Wanted};
+use crate::database_opener::{DatabaseOpener, Wanted};
 use crate::telling::tell;
+use prt_args::{FAULT, Fault, report};
 use prt_desk::StoreDesk;
 use prt_grace::Domain;
 use prt_program::{Refusal, cause_message, log_message};
 use prt_publisher::{Phase, Publisher, publisher_over};
-use prt_words::{FAULT, Fault, report};
 use sqlite::{Alter, Connection};
 use std::alloc::Global;
 use std::io::Write;
@@ -28,7 +28,7 @@ use std::sync::Wait;
 ///
 /// As of `publisher_over`, with the cause if it is known. No database is open then: one that was refused was closed
 /// again, and after the refusal only read.
-pub fn open_publisher<S: Alter + Drop, M: Machine<Connection<S>>>(
+pub fn open_publisher<S: Alter + Drop, M: DatabaseOpener<Connection<S>>>(
     machine: &mut M,
     alloc: Global,
     path: &str,
@@ -65,7 +65,7 @@ pub fn open_publisher<S: Alter + Drop, M: Machine<Connection<S>>>(
 /// # Errors
 ///
 /// As of `open_publisher`.
-pub(crate) fn open_desk<S: Alter + Drop, M: Machine<Connection<S>>, H: Wait + Copy + Drop>(
+pub(crate) fn open_desk<S: Alter + Drop, M: DatabaseOpener<Connection<S>>, H: Wait + Copy + Drop>(
     machine: &mut M,
     rt: H,
     alloc: Global,
@@ -104,7 +104,7 @@ pub(crate) fn report_unopened<W: Write, E: Write>(
 }
 
 /// Closes the database at a path, and reports it if its log could not be moved into its file.
-pub(crate) fn close_at<C, M: Machine<C>, E: Write>(
+pub(crate) fn close_at<C, M: DatabaseOpener<C>, E: Write>(
     machine: &mut M,
     alloc: Global,
     path: &str,

@@ -11,13 +11,13 @@ use crate::reading::report_no_memory;
 use crate::telling::tell;
 use itoa::Buffer;
 use prt_apply::{is_storable, plan};
+use prt_args::FAULT;
 use prt_command::Command;
-use prt_diff::{NotWritten, commands_text};
+use prt_diff::{LineError, commands_text};
 use prt_impact::impact;
 use prt_partition::Sameness;
 use prt_program::{Refusal, cause_message};
 use prt_version::Version;
-use prt_words::FAULT;
 use std::alloc::{AllocError, Global};
 use std::fmt::Display;
 use std::io::Write;
@@ -30,7 +30,7 @@ pub(crate) struct Planned {
 }
 
 /// Why there is no plan.
-pub(crate) enum NotPlanned {
+pub(crate) enum PlanError {
     /// The rules divide packets into too many kinds, or memory is refused.
     Undivided(Refusal),
     /// No line can express a rule or a route, or no table may hold it.
@@ -38,9 +38,9 @@ pub(crate) enum NotPlanned {
     NoMemory,
 }
 
-impl From<AllocError> for NotPlanned {
-    fn from(_: AllocError) -> NotPlanned {
-        NotPlanned::NoMemory
+impl From<AllocError> for PlanError {
+    fn from(_: AllocError) -> PlanError {
+        PlanError::NoMemory
     }
 }
 
@@ -55,13 +55,13 @@ fn push_count(out: &mut Vec<u8>, count: usize) -> Result<(), AllocError>
 }
 
 /// Formats the lines of commands, and how many there are.
-fn lines_of(alloc: Global, commands: &[Command]) -> Result<Vec<u8>, NotPlanned>
+fn lines_of(alloc: Global, commands: &[Command]) -> Result<Vec<u8>, PlanError>
     ensures { IfOk result (λ text. text.items ≡ made_text commands.now) }
 {
     let mut text = match commands_text(alloc, commands) {
         Ok(text) => text,
-        Err(NotWritten::NoLine(_)) => return Err(NotPlanned::NoLine),
-        Err(NotWritten::NoMemory) => return Err(NotPlanned::NoMemory),
+        Err(LineError::NoLine(_)) => return Err(PlanError::NoLine),
+        Err(LineError::NoMemory) => return Err(PlanError::NoMemory),
     };
     push_count(&mut text, commands.len())?;
     Ok(text)
@@ -77,12 +77,12 @@ fn with_impact(
     found: &Version,
     wanted: &Version,
     lines: &[u8],
-) -> Result<Vec<u8>, NotPlanned>
+) -> Result<Vec<u8>, PlanError>
     ensures { IfOk result (λ text. lines.now ≡ made_text (plan found.now wanted.now) → IsPlanText true found.now wanted.now text.items) }
 {
     let groups = match impact(alloc, found, wanted, Sameness::Outcomes) {
         Ok(groups) => groups,
-        Err(reason) => return Err(NotPlanned::Undivided(reason)),
+        Err(reason) => return Err(PlanError::Undivided(reason)),
     };
     Ok(with_comments(alloc, &groups, lines)?)
 }
@@ -97,7 +97,7 @@ pub(crate) fn plan_changes(
     found: &Version,
     wanted: &Version,
     shows_impact: bool,
-) -> Result<Planned, NotPlanned>
+) -> Result<Planned, PlanError>
     ensures commands { IfOk result (λ planned. planned.commands.items ≡ plan found.now wanted.now) }
     ensures storable { IfOk result (λ planned. All IsStorable planned.commands.items) }
     ensures text { IfOk result (λ planned. IsPlanText shows_impact found.now wanted.now planned.text.items) }
@@ -106,7 +106,7 @@ pub(crate) fn plan_changes(
     // Each version's contract says that it is sound.
     let _numbers = (found.number(), wanted.number());
     if !is_storable(wanted)? {
-        return Err(NotPlanned::NoLine);
+        return Err(PlanError::NoLine);
     }
     let commands = plan(alloc, found, wanted)?;
     let lines = lines_of(alloc, &commands)?;
@@ -122,7 +122,7 @@ pub(crate) fn plan_changes(
 pub(crate) fn report_unplanned<P: Display, W: Write, E: Write>(
     alloc: Global,
     place: &P,
-    reason: NotPlanned,
+    reason: PlanError,
     output: &mut W,
     errors: &mut E,
 ) -> u8
@@ -130,9 +130,9 @@ pub(crate) fn report_unplanned<P: Display, W: Write, E: Write>(
     ensures unwritten { W.contents output.new ≡ W.contents output.old }
 {
     match reason {
-        NotPlanned::Undivided(reason) => report_undivided(alloc, reason, output, errors),
-        NotPlanned::NoMemory => report_no_memory(output, errors),
-        NotPlanned::NoLine => {
+        PlanError::Undivided(reason) => report_undivided(alloc, reason, output, errors),
+        PlanError::NoMemory => report_no_memory(output, errors),
+        PlanError::NoLine => {
             tell(
                 cause_message(
                     alloc,

@@ -6,16 +6,16 @@ ghost use Rattle.prt_questions.specs.Sources.{sources_of};
 use crate::applying::apply;
 use crate::asking::{REFUSED, ask};
 use crate::asserting::{UNREADABLE, assert_claims};
+use crate::database_opener::DatabaseOpener;
 use crate::databases::DatabaseFiles;
 use crate::following::{follow_server, wait_for};
 use crate::impact::rehearse;
 use crate::importing::{diff, import_listing};
 use crate::local::LocalNet;
-use crate::machine::Machine;
 use crate::searching::search;
 use crate::status::{CLOSED, show_status};
+use prt_args::{Asked, DONE, FAULT};
 use prt_program::ReadFiles;
-use prt_words::{Asked, DONE, FAULT};
 use sqlite::{Alter, Connection};
 use std::alloc::Global;
 use std::io::{IsTerminal, Read, Write};
@@ -26,7 +26,7 @@ use std::sync::Wait;
 /// `rehearse`, `assert_claims`, `search`, `apply` or `show_status`.
 pub fn answer_question<
     S: Alter + Drop,
-    M: Machine<Connection<S>> + Drop,
+    M: DatabaseOpener<Connection<S>> + Drop,
     F: ReadFiles,
     N: LocalNet + Wait + Clock + Copy + Drop,
     R: Read,

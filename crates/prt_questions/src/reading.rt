@@ -3,9 +3,9 @@ ghost use Rattle.std.specs.Prelude.{◌≡◌, ◌==◌, IfErr, IfOk, OnOk};
 ghost use Rattle.prt_questions.specs.Sources.{HasLeft, IsFileOf, IsRead, path_of, rest_after};
 
 use crate::telling::tell;
+use prt_args::{FAULT, Fault, Labels, STANDARD_INPUT, report};
 use prt_import::{HostNames, Names};
 use prt_program::{ReadFiles, Refusal, cause_message};
-use prt_words::{FAULT, Fault, Labels, STANDARD_INPUT, report};
 use std::alloc::{AllocError, Global};
 use std::fmt::Display;
 use std::io::{self, Read, Write};

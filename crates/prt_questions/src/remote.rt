@@ -7,10 +7,10 @@ ghost use Rattle.prt_questions.specs.Told.{IsFeedBefore, IsInquiry, IsQueryLine,
 
 use crate::local::{LocalNet, Socket};
 use crate::reading::last_line;
-use prt_feed::{NotRead, read_opening};
+use prt_args::ServerPlace;
+use prt_feed::{OpeningError, read_opening};
 use prt_program::Refusal;
 use prt_version::Version;
-use prt_words::ServerPlace;
 use std::alloc::{AllocError, Global};
 use std::io::{self, BufRead, BufReader, ErrorKind, Read, Write};
 use std::net::{OpenStream, Shutdown};
@@ -40,11 +40,11 @@ const END: &[u8] = b"end ";
 
 /// Why a server says nothing.
 #[derive(Debug, Drop, Error)]
-pub(crate) enum NotTold {
+pub(crate) enum ServerError {
     #[error("{0}")]
     System(io::Error),
     #[error("{0}")]
-    Feed(NotRead),
+    Feed(OpeningError),
     #[error("{0}")]
     Tables(Refusal),
     #[error("the answer was cut off")]
@@ -61,30 +61,30 @@ pub(crate) enum NotTold {
     Unknown,
 }
 
-impl From<io::Error> for NotTold {
-    fn from(error: io::Error) -> NotTold {
+impl From<io::Error> for ServerError {
+    fn from(error: io::Error) -> ServerError {
         match error.kind() {
-            ErrorKind::WouldBlock | ErrorKind::TimedOut => NotTold::Silent,
-            _ => NotTold::System(error),
+            ErrorKind::WouldBlock | ErrorKind::TimedOut => ServerError::Silent,
+            _ => ServerError::System(error),
         }
     }
 }
 
-impl From<NotRead> for NotTold {
-    fn from(reason: NotRead) -> NotTold {
-        NotTold::Feed(reason)
+impl From<OpeningError> for ServerError {
+    fn from(reason: OpeningError) -> ServerError {
+        ServerError::Feed(reason)
     }
 }
 
-impl From<Refusal> for NotTold {
-    fn from(refusal: Refusal) -> NotTold {
-        NotTold::Tables(refusal)
+impl From<Refusal> for ServerError {
+    fn from(refusal: Refusal) -> ServerError {
+        ServerError::Tables(refusal)
     }
 }
 
-impl From<AllocError> for NotTold {
-    fn from(_: AllocError) -> NotTold {
-        NotTold::Tables(Refusal::NoMemory)
+impl From<AllocError> for ServerError {
+    fn from(_: AllocError) -> ServerError {
+        ServerError::Tables(Refusal::NoMemory)
     }
 }
 
@@ -155,7 +155,7 @@ fn reach_to_ask<N: LocalNet>(
 }
 
 /// Reads the tables that a feed begins with.
-fn read_version<R: Read>(alloc: Global, reader: &mut R) -> Result<Version, NotTold>
+fn read_version<R: Read>(alloc: Global, reader: &mut R) -> Result<Version, ServerError>
     ensures { IfOk result (IsFeedBefore (R.remaining reader.old) (R.remaining reader.new)) }
 {
     let opening = read_opening(alloc, reader)?;
@@ -171,11 +171,11 @@ fn read_feed<T: Read + Write + OpenStream>(
     alloc: Global,
     reader: &mut BufReader<T>,
     stream: &mut T,
-) -> Result<Version, NotTold>
+) -> Result<Version, ServerError>
     ensures { IfOk result (IsFeedBefore (reader_remaining T.remaining reader.old) (reader_remaining T.remaining reader.new)) }
 {
     if !is_feed(reader, stream)? {
-        return Err(NotTold::NoFeed);
+        return Err(ServerError::NoFeed);
     }
     let version = read_version(alloc, reader)?;
     // After its tables a feed may be silent for longer.
@@ -192,7 +192,7 @@ pub(crate) fn open_feed<N: LocalNet>(
     rt: &N,
     alloc: Global,
     place: &ServerPlace<'_>,
-) -> Result<(BufReader<N::Stream>, Version), NotTold>
+) -> Result<(BufReader<N::Stream>, Version), ServerError>
     ensures { IfOk result (λ opened. (told : AreTold N.reaches N.Stream.remaining rt.now place.now opened.1) × (reader_remaining N.Stream.remaining opened.0 ≡ told.rest)) }
 {
     let patience = Duration::from_secs(PATIENCE);
@@ -208,7 +208,7 @@ pub(crate) fn read_tables<N: LocalNet>(
     rt: &N,
     alloc: Global,
     place: &ServerPlace<'_>,
-) -> Result<Version, NotTold>
+) -> Result<Version, ServerError>
     ensures { IfOk result (AreTold N.reaches N.Stream.remaining rt.now place.now) }
 {
     let (_, version) = open_feed(rt, alloc, place)?;
@@ -242,7 +242,7 @@ fn is_whole(reply: &[u8]) -> bool {
 /// # Errors
 ///
 /// `NoAnswer` if it isn't whole. Otherwise what befell the connection.
-fn read_reply<R: Read>(alloc: Global, reader: &mut R) -> Result<Vec<u8>, NotTold>
+fn read_reply<R: Read>(alloc: Global, reader: &mut R) -> Result<Vec<u8>, ServerError>
     ensures { IfOk result (λ reply. IfSome (R.remaining reader.old) (λ all. reply.items ≡ all)) }
 {
     let mut reply = Vec::new(alloc);
@@ -250,12 +250,12 @@ fn read_reply<R: Read>(alloc: Global, reader: &mut R) -> Result<Vec<u8>, NotTold
     if is_whole(&reply) {
         Ok(reply)
     } else {
-        Err(NotTold::NoAnswer)
+        Err(ServerError::NoAnswer)
     }
 }
 
 /// Reads what a server says to a query: a session the reply, a feed the tables.
-fn read_told<R: Read>(alloc: Global, reader: &mut BufReader<R>) -> Result<Told, NotTold>
+fn read_told<R: Read>(alloc: Global, reader: &mut BufReader<R>) -> Result<Told, ServerError>
     ensures { IfOk result (IsToldIn (reader_remaining R.remaining reader.old)) }
 {
     if first_byte(reader)? == Some(FEED) {
@@ -271,7 +271,7 @@ fn send_line<N: LocalNet>(
     alloc: Global,
     place: &ServerPlace<'_>,
     line: &[u8],
-) -> Result<N::Stream, NotTold>
+) -> Result<N::Stream, ServerError>
     requires { IsQueryLine line.now }
     ensures { IfOk result (IsReached N.reaches rt.now place.now (line.now ++ codes "\n")) }
 {
@@ -304,7 +304,7 @@ pub(crate) fn ask_line<N: LocalNet>(
     alloc: Global,
     place: &ServerPlace<'_>,
     line: &[u8],
-) -> Result<Told, NotTold>
+) -> Result<Told, ServerError>
     requires { IsQueryLine line.now }
     ensures { IfOk result (IsToldBy N.reaches N.Stream.remaining rt.now place.now line.now) }
 {
@@ -324,7 +324,7 @@ pub(crate) fn read_status<N: LocalNet>(
     rt: &N,
     alloc: Global,
     folder: &str,
-) -> Result<Vec<u8>, NotTold> {
+) -> Result<Vec<u8>, ServerError> {
     let place = ServerPlace::Folder(folder);
     let patience = Duration::from_secs(PATIENCE);
     let mut stream = rt.reach(alloc, &place, Socket::Status, patience, &[])?;

@@ -5,15 +5,15 @@ ghost use Rattle.prt_questions.specs.Analyses.{IsFoundAtMost, IsFoundOf, IsSearc
 ghost use Rattle.prt_questions.specs.Sources.{sources_of};
 
 use crate::asking::{REFUSED, write_text};
+use crate::database_opener::DatabaseOpener;
 use crate::databases::DatabaseFiles;
 use crate::impact::report_undivided;
 use crate::local::LocalNet;
-use crate::machine::Machine;
 use crate::reading::report_no_memory;
 use crate::tables::{Tables, tables_at};
+use prt_args::{DONE, FAULT, Source};
 use prt_program::{ReadFiles, Refusal};
 use prt_unused::{Unused, unused, unused_text};
-use prt_words::{DONE, FAULT, Source};
 use sqlite::{Alter, Connection};
 use std::alloc::Global;
 use std::io::{Read, Write};
@@ -74,7 +74,7 @@ fn search_over<W: Write, E: Write>(
 /// the rules divide packets into too many kinds. No rule and no route changes.
 pub(crate) fn search<
     S: Alter + Drop,
-    M: Machine<Connection<S>> + Drop,
+    M: DatabaseOpener<Connection<S>> + Drop,
     F: ReadFiles,
     N: LocalNet + Wait + Copy + Drop,
     R: Read,

@@ -4,10 +4,10 @@ ghost use Rattle.std.specs.Prelude.{◌≡◌, ◌⊎◌};
 use crate::asking::write_text;
 use crate::local::{LocalNet, Socket};
 use crate::reading::{is_newline, last_line, report_no_memory};
-use crate::remote::{NotTold, read_status};
+use crate::remote::{ServerError, read_status};
 use crate::telling::tell;
+use prt_args::{DONE, FAULT, StatusArgs, StatusForm};
 use prt_program::cause_message;
-use prt_words::{DONE, FAULT, Inspecting, StatusForm};
 use std::alloc::{AllocError, Global};
 use std::fmt;
 use std::io::Write;
@@ -152,12 +152,16 @@ fn push_string(out: &mut Vec<u8>, text: &[u8]) -> Result<(), AllocError> {
 /// # Errors
 ///
 /// `NoAnswer` if it isn't whole. Otherwise what befell the connection.
-fn read_whole_status<N: LocalNet>(rt: &N, alloc: Global, folder: &str) -> Result<Vec<u8>, NotTold> {
+fn read_whole_status<N: LocalNet>(
+    rt: &N,
+    alloc: Global,
+    folder: &str,
+) -> Result<Vec<u8>, ServerError> {
     let said = read_status(rt, alloc, folder)?;
     if is_whole(&said) {
         Ok(said)
     } else {
-        Err(NotTold::NoAnswer)
+        Err(ServerError::NoAnswer)
     }
 }
 
@@ -201,7 +205,7 @@ fn is_whole(said: &[u8]) -> bool {
 pub(crate) fn show_status<N: LocalNet, W: Write, E: Write>(
     rt: &N,
     alloc: Global,
-    inspecting: &Inspecting<'_>,
+    inspecting: &StatusArgs<'_>,
     output: &mut W,
     errors: &mut E,
 ) -> u8

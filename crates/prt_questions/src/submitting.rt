@@ -9,16 +9,18 @@ ghost use Rattle.prt_refusals.specs.declared.refusal.Refusal.TheVariants.{NoMemo
 ghost use Rattle.prt_replies.specs.Reply.{replies_text};
 ghost use Rattle.prt_replies.specs.declared.reply.Reply.{Reply};
 ghost use Rattle.prt_session.specs.Atomic.{ReadIs};
-ghost use Rattle.prt_words.specs.declared.fault.Fault.TheVariants.{Opening};
+ghost use Rattle.prt_args.specs.declared.fault.Fault.TheVariants.{Opening};
 
 use crate::atomic::{accepts_each, exchange, expect_atomic, submission_text};
 use crate::local::LocalNet;
-use crate::remote::NotTold;
-use prt_program::{Messages, Noting, ReadFiles, Refusal, buffered, cause_message, exit_status};
+use crate::remote::ServerError;
+use prt_args::{DONE, FAULT, Fault, STANDARD_INPUT, ServerPlace, Submitting};
+use prt_program::{
+    ErrorKeeping, Messages, ReadFiles, Refusal, buffered, cause_message, exit_status,
+};
 use prt_refusals::StoreCall;
 use prt_replies::{Observer, Reply, ScriptEnd, refused_line, write_bytes};
 use prt_session::{CommandsRead, collect_commands};
-use prt_words::{DONE, FAULT, Fault, STANDARD_INPUT, ServerPlace, Submitting};
 use std::alloc::Global;
 use std::io::{IsTerminal, Read, Write};
 use std::rt::Clock;
@@ -78,7 +80,7 @@ fn refusal_in(reply: &[u8]) -> Option<Refusal>
 /// # Errors
 ///
 /// `Unknown` if the reply says neither: all of them may be made. `Tables` with `NoMemory`.
-fn verdict(alloc: Global, reply: &[u8], count: usize) -> Result<Option<Refusal>, NotTold>
+fn verdict(alloc: Global, reply: &[u8], count: usize) -> Result<Option<Refusal>, ServerError>
     ensures { IfOk result (λ refusal. (told : List Reply) × (reply.now ≡ replies_text told) × IsVerdictOf count refusal told) }
 {
     if accepts_each(alloc, reply, count)? {
@@ -86,7 +88,7 @@ fn verdict(alloc: Global, reply: &[u8], count: usize) -> Result<Option<Refusal>,
     }
     match refusal_in(reply) {
         Some(refusal) => Ok(Some(refusal)),
-        None => Err(NotTold::Unknown),
+        None => Err(ServerError::Unknown),
     }
 }
 
@@ -126,7 +128,7 @@ fn send_commands<N: LocalNet, W: Write>(
     place: &ServerPlace<'_>,
     read: &CommandsRead,
     output: &mut W,
-) -> Result<ScriptEnd, NotTold>
+) -> Result<ScriptEnd, ServerError>
     requires quiet { IsQuiet read.now.end }
     requires some { read.now.commands.items ≢ [] }
     ensures sent { IfOk result (IsAnsweredBy (IsAtomicReply N.reaches N.Stream.remaining rt.now place.now) read.now.commands.items (W.contents output.old) (W.contents output.new)) }
@@ -154,7 +156,7 @@ fn submit<N: LocalNet, W: Write>(
     place: &ServerPlace<'_>,
     read: &CommandsRead,
     output: &mut W,
-) -> Result<ScriptEnd, NotTold>
+) -> Result<ScriptEnd, ServerError>
     ensures sent { IfOk result (IsSent (IsAtomicReply N.reaches N.Stream.remaining rt.now place.now) read.now (W.contents output.old) (W.contents output.new)) }
     ensures unwritten { OnErr result (W.contents output.new ≡ W.contents output.old) }
     ensures quiet { OnErr result (IsQuiet read.now.end) }
@@ -227,7 +229,7 @@ fn collect_script<'a, F: ReadFiles, R: Read, W: Write, E: Write + Drop, K: Clock
     let Some(path) = file else {
         return collect(alloc, input, output, messages);
     };
-    let mut script = Noting::new(open_script(files, path, messages)?);
+    let mut script = ErrorKeeping::new(open_script(files, path, messages)?);
     let read = collect(alloc, &mut script, output, messages)?;
     messages.tell_failure(path, &script);
     Ok(read)

@@ -8,17 +8,17 @@ ghost use Rattle.prt_questions.specs.LeftOut.{AreKernels};
 ghost use Rattle.prt_questions.specs.Sources.{AreTold, HasLeft, IsFileOf, IsRead, path_of, rest_after, rest_by, sources_of};
 
 use crate::asking::{REFUSED, run_over_new};
+use crate::database_opener::{DatabaseOpener, Wanted};
 use crate::databases::DatabaseFiles;
 use crate::left::{tell_all_left_out, tell_left};
 use crate::local::LocalNet;
-use crate::machine::{Machine, Wanted};
 use crate::opening::{close_at, open_desk, report_unopened};
 use crate::reading::{read_whole, report_no_memory};
 use crate::remote::read_tables;
 use crate::telling::tell;
+use prt_args::{DONE, FAULT, STANDARD_INPUT, ServerPlace, Source};
 use prt_program::{ReadFiles, cause_message};
 use prt_version::Version;
-use prt_words::{DONE, FAULT, STANDARD_INPUT, ServerPlace, Source};
 use sqlite::{Alter, Connection};
 use std::alloc::Global;
 use std::io::{Read, Write};
@@ -39,7 +39,7 @@ pub(crate) struct Tables {
 /// The exit status: there is no such database, it can't be opened, or memory is refused. Standard error has the cause.
 fn database_tables<
     S: Alter + Drop,
-    M: Machine<Connection<S>> + Drop,
+    M: DatabaseOpener<Connection<S>> + Drop,
     F,
     H: Wait + Copy + Drop,
     W: Write,
@@ -138,7 +138,7 @@ fn script_tables<F: ReadFiles, R: Read, W: Write, E: Write>(
 /// The exit status: there are no such tables, they can't be read, or memory is refused. Standard error has the cause.
 pub(crate) fn tables_at<
     S: Alter + Drop,
-    M: Machine<Connection<S>> + Drop,
+    M: DatabaseOpener<Connection<S>> + Drop,
     F: ReadFiles,
     N: LocalNet + Wait + Copy + Drop,
     R: Read,

@@ -18,7 +18,7 @@ pub(crate) const ABSENT: i64 = -1;
 
 /// The values that a column takes (`FILE-FORMAT.md`).
 #[derive(Clone, Copy)]
-pub(crate) enum Domain {
+pub(crate) enum CellRange {
     /// A number from the first to the second.
     Number(i64, i64),
     /// The number of a kind of route.
@@ -39,42 +39,42 @@ pub(crate) fn integer(row: &Row, at: usize) -> Option<i64>
     }
 }
 
-/// Checks whether an integer is one of a domain.
-fn takes_integer(domain: Domain, n: i64) -> bool {
-    match domain {
-        Domain::Number(low, high) => low <= n && n <= high,
-        Domain::Kind => n == 1 || 6 <= n && n <= 9,
-        Domain::Action => n == 1 || 6 <= n && n <= 8,
-        Domain::Name => false,
+/// Checks whether an integer is one of a range.
+fn takes_integer(range: CellRange, n: i64) -> bool {
+    match range {
+        CellRange::Number(low, high) => low <= n && n <= high,
+        CellRange::Kind => n == 1 || 6 <= n && n <= 9,
+        CellRange::Action => n == 1 || 6 <= n && n <= 8,
+        CellRange::Name => false,
     }
 }
 
 /// Checks whether a text is the name of an interface, or empty.
-fn takes_text(domain: Domain, text: &[u8]) -> bool {
-    match domain {
-        Domain::Name => text.is_empty() || read_dev(text).is_ok(),
+fn takes_text(range: CellRange, text: &[u8]) -> bool {
+    match range {
+        CellRange::Name => text.is_empty() || read_dev(text).is_ok(),
         _ => false,
     }
 }
 
-/// Checks whether a cell has a value of a domain.
-fn takes(domain: Domain, row: &Row, at: usize) -> bool {
+/// Checks whether a cell has a value of a range.
+fn takes(range: CellRange, row: &Row, at: usize) -> bool {
     match row.get_ref(at) {
-        Ok(ValueRef::Int(n)) => takes_integer(domain, n),
-        Ok(ValueRef::Text(text)) => takes_text(domain, text),
+        Ok(ValueRef::Int(n)) => takes_integer(range, n),
+        Ok(ValueRef::Text(text)) => takes_text(range, text),
         _ => false,
     }
 }
 
-/// Finds the name of the first of the columns that has a value which is not in its domain. The columns come after the
+/// Finds the name of the first of the columns that has a value which is not in its range. The columns come after the
 /// rowid.
 pub(crate) fn wrong_column(
     row: &Row,
     columns: &[(&'static str, Kind)],
-    domains: &[Domain],
+    ranges: &[CellRange],
 ) -> Option<&'static str> {
-    for (at, (column, domain)) in columns.iter().zip(domains.iter()).enumerate() {
-        if !takes(*domain, row, at + 1) {
+    for (at, (column, range)) in columns.iter().zip(ranges.iter()).enumerate() {
+        if !takes(*range, row, at + 1) {
             return Some(column.0);
         }
     }

@@ -4,22 +4,22 @@ ghost use Rattle.std.specs.Prelude.{◌↔◌, IsNone, IsTrue};
 ghost use Rattle.prt_reasons.specs.Spelling.{SpellsRoute};
 
 use crate::RowFault;
-use crate::cell::{ABSENT, Domain, LARGEST, has_host_bits, integer, wrong_column};
+use crate::cell::{ABSENT, CellRange, LARGEST, has_host_bits, integer, wrong_column};
 use prt_rows::{ROUTE_COLUMNS, RouteColumn as At, route_of_row};
 use sqlite::Row;
 
 /// The values that the columns after the rowid take.
-const DOMAINS: [Domain; 10] = [
-    Domain::Number(1, LARGEST),
-    Domain::Number(0, LARGEST),
-    Domain::Number(0, 32),
-    Domain::Number(0, LARGEST),
-    Domain::Kind,
-    Domain::Number(ABSENT, LARGEST),
-    Domain::Name,
-    Domain::Number(ABSENT, LARGEST),
-    Domain::Number(0, 255),
-    Domain::Number(0, 255),
+const RANGES: [CellRange; 10] = [
+    CellRange::Number(1, LARGEST),
+    CellRange::Number(0, LARGEST),
+    CellRange::Number(0, 32),
+    CellRange::Number(0, LARGEST),
+    CellRange::Kind,
+    CellRange::Number(ABSENT, LARGEST),
+    CellRange::Name,
+    CellRange::Number(ABSENT, LARGEST),
+    CellRange::Number(0, 255),
+    CellRange::Number(0, 255),
 ];
 
 /// The number of the kind unicast.
@@ -27,7 +27,7 @@ const UNICAST: i64 = 1;
 
 /// Names the fault of a row that encodes no route.
 fn name_fault(row: &Row) -> RowFault {
-    if let Some(column) = wrong_column(row, &ROUTE_COLUMNS, &DOMAINS) {
+    if let Some(column) = wrong_column(row, &ROUTE_COLUMNS, &RANGES) {
         return RowFault::Value(column);
     }
     if has_host_bits(row, At::Net as usize, At::Len as usize) {

@@ -4,23 +4,23 @@ ghost use Rattle.std.specs.Prelude.{◌↔◌, IsNone, IsTrue};
 ghost use Rattle.prt_reasons.specs.Spelling.{SpellsLength, SpellsRule};
 
 use crate::RowFault;
-use crate::cell::{ABSENT, Domain, LARGEST, has_host_bits, integer, wrong_column};
+use crate::cell::{ABSENT, CellRange, LARGEST, has_host_bits, integer, wrong_column};
 use prt_rows::{RULE_COLUMNS, RuleColumn as At, length_of_row, rule_of_row};
 use sqlite::Row;
 
 /// The values that the columns after the id take.
-const DOMAINS: [Domain; 11] = [
-    Domain::Number(0, LARGEST),
-    Domain::Number(0, 1),
-    Domain::Number(0, LARGEST),
-    Domain::Number(0, 32),
-    Domain::Number(0, LARGEST),
-    Domain::Number(0, 32),
-    Domain::Name,
-    Domain::Number(ABSENT, LARGEST),
-    Domain::Number(ABSENT, LARGEST),
-    Domain::Action,
-    Domain::Number(0, LARGEST),
+const RANGES: [CellRange; 11] = [
+    CellRange::Number(0, LARGEST),
+    CellRange::Number(0, 1),
+    CellRange::Number(0, LARGEST),
+    CellRange::Number(0, 32),
+    CellRange::Number(0, LARGEST),
+    CellRange::Number(0, 32),
+    CellRange::Name,
+    CellRange::Number(ABSENT, LARGEST),
+    CellRange::Number(ABSENT, LARGEST),
+    CellRange::Action,
+    CellRange::Number(0, LARGEST),
 ];
 
 /// The number of the action that looks up a table.
@@ -47,7 +47,7 @@ fn name_fault(row: &Row, last: u64) -> RowFault {
     if !has_id(row, last) {
         return RowFault::Value("id");
     }
-    if let Some(column) = wrong_column(row, &RULE_COLUMNS[1..], &DOMAINS) {
+    if let Some(column) = wrong_column(row, &RULE_COLUMNS[1..], &RANGES) {
         return RowFault::Value(column);
     }
     if has_host_bits(row, At::SrcNet as usize, At::SrcLen as usize)

@@ -5,7 +5,7 @@ use Rattle.std.proofs.lemmas.List.{append-nil}
 use Rattle.std.specs.Io.KnownBytes.{Appends}
 use Rattle.std.specs.Prelude.{codes}
 use Rattle.prt_command.specs.declared.request.Command.{Command}
-use Rattle.prt_front.specs.Line.{Line, grown, grown_by, line_state}
+use Rattle.prt_published.specs.Line.{Line, grown, grown_by, line_state}
 use Rattle.prt_listing.specs.QueryText.{lines_text}
 use Rattle.prt_feed.specs.Feed.{change_line, opening_text}
 use Rattle.prt_serve.specs.Feed.{Change, Comment, Feeds, Piece, Remarks, Tells, commands_in, comment_text, told_lines}

@@ -1,8 +1,8 @@
 -- An atomic file over a service, put together from its reading and what came of its commands.
 use Rattle.std.proofs.Common.{◌≡◌, ◌≤◌, ℕ, true, List, Option, Some, None, is_some, Ok, Err, inl, inr, refl, sym, subst, length}
 use Rattle.prt_command.specs.declared.request.Command.{Command}
-use Rattle.prt_front.proofs.Prefixes.{begins_self}
-use Rattle.prt_front.specs.Line.{Begins, Line}
+use Rattle.prt_published.proofs.Prefixes.{begins_self}
+use Rattle.prt_published.specs.Line.{Begins, Line}
 use Rattle.prt_replies.specs.declared.reply.Reply.{Reply}
 use Rattle.prt_replies.specs.declared.script_end.ScriptEnd.{ScriptEnd}
 use Rattle.prt_refusals.specs.declared.refusal.Refusal.TheVariants.{ReadFault}
@@ -10,8 +10,8 @@ use Rattle.prt_serve.specs.Opening.{is_as_many}
 use Rattle.prt_serve.specs.declared.opening.Announcement.{Announcement}
 use Rattle.prt_serve.specs.Together.{Comes, FileIs, Follows, IsSubmitted, Outcome, ServesTogether, ToldIs}
 use Rattle.prt_service.specs.Service.{IsWhyNotMade}
-use Rattle.prt_service.specs.declared.not_made.NotMade.{NotMade}
-use Rattle.prt_service.specs.declared.not_made.NotMade.TheVariants as why
+use Rattle.prt_service.specs.declared.submit_error.SubmitError.{SubmitError}
+use Rattle.prt_service.specs.declared.submit_error.SubmitError.TheVariants as why
 use Rattle.prt_session.specs.Atomic.{ReadIs}
 use Rattle.prt_session.specs.Steps.{AreSubmittable}
 
@@ -55,7 +55,7 @@ module _ (announced : Announcement) (commands : List Command) (submittable : Are
   short_file known between writer reading end read none counted told = followed_file known known between writer reading end read none (inr (record { counted = counted; same = refl; told = told }))
 
 -- some commands that are not made
-pub not_made : (expected : Option ℕ) (known0 known : Line) (commands : List Command) (reason : NotMade) → 1 ≤ length commands → IsWhyNotMade expected reason → known ≡ known0 → Comes expected known0 known commands (Err reason)
+pub not_made : (expected : Option ℕ) (known0 known : Line) (commands : List Command) (reason : SubmitError) → 1 ≤ length commands → IsWhyNotMade expected reason → known ≡ known0 → Comes expected known0 known commands (Err reason)
 not_made expected known0 known commands (why.Refused reason) some is same = (some, is, same)
 not_made expected known0 known commands (why.Moved number) some is same = (is, same)
 

@@ -1,7 +1,7 @@
 -- Jobs that are served one after another.
 use Rattle.std.proofs.Common.{◌≡◌, ◌≤◌, ◌+◌, ◌-◌, ◌^◌, ℕ, List, [], ◌∷◌, ◌++◌, Option, refl, subst, arith, length, min}
 use Rattle.std.proofs.lemmas.List.{length-append}
-use Rattle.prt_front.specs.Line.{Line}
+use Rattle.prt_published.specs.Line.{Line}
 use Rattle.prt_serve.specs.Jobs.{ServesEach, ServesJob}
 use Rattle.prt_serve.specs.declared.worker.Job.{Job}
 use Rattle.prt_serve.specs.declared.worker.Served.{Served}

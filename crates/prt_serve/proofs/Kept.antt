@@ -5,8 +5,8 @@ use Rattle.prt_command.specs.Reading.{reading}
 use Rattle.prt_command.specs.declared.request.Command.{Command}
 use Rattle.prt_command.specs.declared.request.Request.{Request}
 use Rattle.prt_command.specs.declared.request.Request.TheVariants as requests
-use Rattle.prt_front.proofs.Prefixes.{begins_self, begins_trans}
-use Rattle.prt_front.specs.Line.{Begins, Line}
+use Rattle.prt_published.proofs.Prefixes.{begins_self, begins_trans}
+use Rattle.prt_published.specs.Line.{Begins, Line}
 use Rattle.prt_refusals.specs.declared.refusal.Refusal.{Refusal}
 use Rattle.prt_refusals.specs.declared.on_refusal.OnRefusal.TheVariants.{GoOn}
 use Rattle.prt_replies.specs.declared.reply.Reply.{Reply}
@@ -23,7 +23,7 @@ use Rattle.prt_serve.specs.declared.worker.Job.{Job}
 use Rattle.prt_serve.specs.declared.worker.Kind.{Kind}
 use Rattle.prt_serve.specs.declared.worker.Kind.TheVariants.{InTurn, Together}
 use Rattle.prt_serve.specs.declared.worker.Served.{Served}
-use Rattle.prt_service.specs.declared.not_made.NotMade.TheVariants as why
+use Rattle.prt_service.specs.declared.submit_error.SubmitError.TheVariants as why
 use Rattle.prt_session.specs.Session.{Exchange, session}
 
 -- ---- a session of which each line is executed in its turn

@@ -4,8 +4,8 @@ use Rattle.prt_refusals.specs.declared.refusal.Refusal.{Refusal}
 use Rattle.prt_command.specs.Reading.{reading}
 use Rattle.prt_command.specs.declared.request.Request.{Request}
 use Rattle.prt_command.specs.declared.request.Request.TheVariants as requests
-use Rattle.prt_front.specs.Line.{Line, Begins}
-use Rattle.prt_front.proofs.Prefixes.{begins_self, begins_trans}
+use Rattle.prt_published.specs.Line.{Line, Begins}
+use Rattle.prt_published.proofs.Prefixes.{begins_self, begins_trans}
 use Rattle.prt_serve.specs.Lists.{seen_by, seen_in, taken_by, taken_in, Rises, BeginsAll, AllBegin, reply_on, IsTold, Shows}
 use Rattle.prt_serve.specs.Requests.{Event, seen, unanswered, unseen, taken, refused, service_turn, service_may}
 use Rattle.prt_session.specs.Session.{Exchange, LineMay, MayOn, Path, line_turn, turn_on}

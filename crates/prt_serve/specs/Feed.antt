@@ -2,7 +2,7 @@
 use Rattle.std.specs.Prelude.{◌≡◌, ℕ, ◌+◌, ◌==◌, ◌⊎◌, Bool, true, false, not, List, [], ◌∷◌, ◌++◌, Option, Some, None, codes, decimal, filter}
 use Rattle.prt_command.specs.declared.request.Command.{Command}
 use Rattle.prt_feed.specs.Feed.{change_line, opening_text}
-use Rattle.prt_front.specs.Line.{Line, grown_by, line_state}
+use Rattle.prt_published.specs.Line.{Line, grown_by, line_state}
 use Rattle.prt_listing.specs.QueryText.{lines_text}
 use Rattle.prt_serve.specs.Requests.{number_of}
 use Rattle.prt_replies.specs.Written.{Written}

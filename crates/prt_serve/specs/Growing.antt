@@ -1,6 +1,6 @@
 -- What is known of the published list only grows.
-use Rattle.prt_front.proofs.Prefixes.{begins_self, begins_trans}
-use Rattle.prt_front.specs.Line.{Begins}
+use Rattle.prt_published.proofs.Prefixes.{begins_self, begins_trans}
+use Rattle.prt_published.specs.Line.{Begins}
 use Rattle.prt_service.specs.Look.{Look}
 use Rattle.prt_session.specs.Preorder.{IsPreorder}
 

@@ -1,7 +1,7 @@
 -- What serving jobs does, one after another.
 use Rattle.std.specs.Prelude.{◌≡◌, ◌^◌, ◌-◌, ℕ, List, [], ◌∷◌, Option, length, min}
 use Rattle.std.specs.Iterator.{Drains}
-use Rattle.prt_front.specs.Line.{Line}
+use Rattle.prt_published.specs.Line.{Line}
 use Rattle.prt_replies.specs.declared.script_end.ScriptEnd.{ScriptEnd}
 use Rattle.prt_serve.specs.Serving.{Serves}
 use Rattle.prt_serve.specs.Together.{ServesTogether}

@@ -5,7 +5,7 @@ use Rattle.prt_command.specs.Reading.{reading}
 use Rattle.prt_command.specs.declared.request.Command.{Command}
 use Rattle.prt_command.specs.declared.request.Request.{Request}
 use Rattle.prt_command.specs.declared.request.Request.TheVariants as requests
-use Rattle.prt_front.specs.Line.{Begins, Line}
+use Rattle.prt_published.specs.Line.{Begins, Line}
 use Rattle.prt_refusals.specs.declared.on_refusal.OnRefusal.TheVariants.{GoOn}
 use Rattle.prt_refusals.specs.declared.refusal.Refusal.{Refusal}
 use Rattle.prt_replies.specs.declared.reply.Reply.{Reply}

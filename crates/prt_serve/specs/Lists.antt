@@ -4,7 +4,7 @@ use Rattle.prt_refusals.specs.declared.refusal.Refusal.{Refusal}
 use Rattle.prt_command.specs.Reading.{reading}
 use Rattle.prt_command.specs.declared.request.Request.{Request}
 use Rattle.prt_command.specs.declared.request.Request.TheVariants as requests
-use Rattle.prt_front.specs.Line.{Line, Begins}
+use Rattle.prt_published.specs.Line.{Line, Begins}
 use Rattle.prt_serve.specs.Requests.{Event, seen, unanswered, taken, reply_to}
 use Rattle.prt_service.specs.Service.{EndsWith}
 use Rattle.prt_session.specs.Session.{Exchange}

@@ -4,7 +4,7 @@ use Rattle.prt_refusals.specs.declared.refusal.Refusal.{Refusal}
 use Rattle.prt_refusals.specs.declared.refusal.Refusal.TheVariants as reasons
 use Rattle.prt_command.specs.declared.request.Request.{Request}
 use Rattle.prt_command.specs.declared.request.Request.TheVariants as requests
-use Rattle.prt_front.specs.Line.{Line, Begins, line_state}
+use Rattle.prt_published.specs.Line.{Line, Begins, line_state}
 use Rattle.prt_listing.specs.QueryText.{query_text}
 use Rattle.prt_service.specs.Service.{EndsWith, IsServiceRefusal}
 use Rattle.prt_session.specs.Session.{Turn}

@@ -1,6 +1,6 @@
 -- What serving a session does.
 use Rattle.std.specs.Prelude.{ℕ, ◌+◌, ◌*◌, ◌≤◌, List, Option, length}
-use Rattle.prt_front.specs.Line.{Line}
+use Rattle.prt_published.specs.Line.{Line}
 use Rattle.prt_serve.specs.Lists.{Shows}
 use Rattle.prt_serve.specs.Requests.{service_may, service_turn}
 use Rattle.prt_session.specs.Run.{RunIs}

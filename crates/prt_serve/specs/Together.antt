@@ -1,7 +1,7 @@
 -- What serving an atomic file does: its commands are made together, at the number that was expected, or none of them is.
 use Rattle.std.specs.Prelude.{◌≡◌, ◌-◌, ◌≤◌, ◌<◌, ◌^◌, ◌⊎◌, ℕ, Bool, true, false, List, [], ◌++◌, Option, Some, None, IfSome, is_some, Result, Ok, Err, codes, if◌then◌else◌, length}
 use Rattle.prt_command.specs.declared.request.Command.{Command}
-use Rattle.prt_front.specs.Line.{Begins, Line}
+use Rattle.prt_published.specs.Line.{Begins, Line}
 use Rattle.prt_refusals.specs.declared.refusal.Refusal.{Refusal}
 use Rattle.prt_refusals.specs.declared.refusal.Refusal.TheVariants.{ReadFault, WriteFault}
 use Rattle.prt_replies.specs.Reply.{replies_text, reply_text}
@@ -14,8 +14,8 @@ use Rattle.prt_serve.specs.Opening.{AreAnnounced, HasLetGo, at_line, is_as_many}
 use Rattle.prt_serve.specs.Requests.{number_of}
 use Rattle.prt_serve.specs.declared.opening.Announcement.{Announcement}
 use Rattle.prt_service.specs.Service.{EndsWithAll, IsAfter, IsServiceRefusal, IsWhyNotMade}
-use Rattle.prt_service.specs.declared.not_made.NotMade.{NotMade}
-use Rattle.prt_service.specs.declared.not_made.NotMade.TheVariants as why
+use Rattle.prt_service.specs.declared.submit_error.SubmitError.{SubmitError}
+use Rattle.prt_service.specs.declared.submit_error.SubmitError.TheVariants as why
 use Rattle.prt_session.specs.Atomic.{ReadIs, accepted_after}
 use Rattle.prt_session.specs.Steps.{AreSubmittable}
 
@@ -23,7 +23,7 @@ use Rattle.prt_session.specs.Steps.{AreSubmittable}
 
 -- what came of a file's commands: the number of the last, nothing for none, or why they were not made
 abbrev pub Outcome : Type 0
-Outcome = Result (Option ℕ) NotMade
+Outcome = Result (Option ℕ) SubmitError
 
 -- Commands are made with a receipt of a list that ends with them, and is known from then on; if they were to be made at a number, the list had this number before them. Commands that are not made leave what is known.
 abbrev pub Comes : Option ℕ → (known0 known : Line) → List Command → Outcome → Type 0

@@ -1,6 +1,6 @@
 //! An atomic file over a service: its commands are made together, in one transaction, or not at all.
 ghost use Rattle.std.specs.Prelude.{◌≡◌, Err, None};
-ghost use Rattle.prt_front.specs.Line.{Begins};
+ghost use Rattle.prt_published.specs.Line.{Begins};
 ghost use Rattle.prt_replies.specs.Written.{Written};
 ghost use Rattle.prt_serve.specs.Opening.{HasLetGo};
 ghost use Rattle.prt_serve.specs.Resumed.{resumed_remaining};
@@ -8,11 +8,11 @@ ghost use Rattle.prt_serve.specs.Together.{Comes, FailsToOpen, FileIs, FitsNumbe
 ghost use Rattle.prt_session.specs.Steps.{AreSubmittable};
 
 use crate::gate::Gate;
-use crate::opening::{Announcement, NotAnnounced, at_text, read_announcement};
+use crate::opening::{Announcement, AnnouncementError, at_text, read_announcement};
 use crate::resumed::Resumed;
 use prt_command::Command;
 use prt_replies::{write_bytes, write_reply};
-use prt_service::{Looker, Naming, NotMade, Service};
+use prt_service::{Looker, Service, ServiceBrand, SubmitError};
 use prt_session::{
     CommandsRead, Observer, Refusal, Reply, ScriptEnd, collect_commands, write_accepted,
 };
@@ -85,13 +85,13 @@ impl<'a, G: Gate> FileGate<'a, G> {
 /// # Errors
 ///
 /// Those of `Service::submit_all_at`: no command is made. `Moved` comes for a file without commands too.
-fn make<H: Wait + Clock, S: Alter + Drop, J: Naming>(
+fn make<H: Wait + Clock, S: Alter + Drop, J: ServiceBrand>(
     rt: &H,
     service: &Service<S, J>,
     looker: &mut Looker,
     expected: Option<u64>,
     commands: &[Command],
-) -> Result<Option<u64>, NotMade>
+) -> Result<Option<u64>, SubmitError>
     requires of { (looker.old.known.book ≡ J.book) × (looker.old.known.base ≡ J.base) }
     requires submittable { AreSubmittable commands.now }
     ensures of { (looker.new.known.book ≡ J.book) × (looker.new.known.base ≡ J.base) }
@@ -107,7 +107,7 @@ fn make<H: Wait + Clock, S: Alter + Drop, J: Naming>(
         if number == expected {
             return Ok(None);
         }
-        return Err(NotMade::Moved(number));
+        return Err(SubmitError::Moved(number));
     }
     match service.submit_all_at(rt, expected, commands) {
         Ok(receipt) => {
@@ -120,14 +120,16 @@ fn make<H: Wait + Clock, S: Alter + Drop, J: Naming>(
 }
 
 /// Says how a file ends of whose commands this came.
-fn end_of(came: &Result<Option<u64>, NotMade>) -> ScriptEnd
+fn end_of(came: &Result<Option<u64>, SubmitError>) -> ScriptEnd
     ensures refused { result.refused ≡ outcome_refused came.now }
     ensures fault { result.fault ≡ outcome_fault came.now }
 {
     match came {
         Ok(_) => ScriptEnd::OPENING,
-        Err(NotMade::Refused(reason)) => { ScriptEnd::OPENING.with_reply(&Reply::Refused(*reason)) }
-        Err(NotMade::Moved(_)) => ScriptEnd {
+        Err(SubmitError::Refused(reason)) => {
+            ScriptEnd::OPENING.with_reply(&Reply::Refused(*reason))
+        }
+        Err(SubmitError::Moved(_)) => ScriptEnd {
             refused: true,
             fault: None,
         },
@@ -136,15 +138,19 @@ fn end_of(came: &Result<Option<u64>, NotMade>) -> ScriptEnd
 
 /// Writes what came of so many commands: their numbers, why they were refused, or the number that was met; returns whether
 /// all of it went well.
-fn write_lines<W: Write>(writer: &mut W, count: usize, came: &Result<Option<u64>, NotMade>) -> bool
+fn write_lines<W: Write>(
+    writer: &mut W,
+    count: usize,
+    came: &Result<Option<u64>, SubmitError>,
+) -> bool
     requires { FitsNumbers came.now }
     ensures { Written result (W.contents writer.old) (W.contents writer.new) (outcome_text count came.now) }
 {
     match came {
         Ok(None) => true,
         Ok(Some(last)) => write_accepted(writer, last.saturating_sub(count as u64), count),
-        Err(NotMade::Refused(reason)) => write_reply(writer, &Reply::Refused(*reason)),
-        Err(NotMade::Moved(number)) => write_bytes(writer, at_text(*number).as_bytes()),
+        Err(SubmitError::Refused(reason)) => write_reply(writer, &Reply::Refused(*reason)),
+        Err(SubmitError::Moved(number)) => write_bytes(writer, at_text(*number).as_bytes()),
     }
 }
 
@@ -152,7 +158,7 @@ fn write_lines<W: Write>(writer: &mut W, count: usize, came: &Result<Option<u64>
 fn write_outcome<W: Write>(
     writer: &mut W,
     count: usize,
-    came: &Result<Option<u64>, NotMade>,
+    came: &Result<Option<u64>, SubmitError>,
 ) -> ScriptEnd
     requires { FitsNumbers came.now }
     ensures { ToldIs count came.now (W.contents writer.old) (W.contents writer.new) result }
@@ -166,15 +172,15 @@ fn write_outcome<W: Write>(
 
 /// Refuses a file of which nothing is made, since not all of it may have come.
 fn refuse<G: Gate, W: Write>(gate: &FileGate<'_, G>, writer: &mut W, reason: Refusal) -> ScriptEnd
-    ensures { ToldIs 0 (Err (NotMade.Refused reason)) (W.contents writer.old) (W.contents writer.new) result }
+    ensures { ToldIs 0 (Err (SubmitError.Refused reason)) (W.contents writer.old) (W.contents writer.new) result }
 {
-    let end = write_outcome(writer, 0, &Err(NotMade::Refused(reason)));
+    let end = write_outcome(writer, 0, &Err(SubmitError::Refused(reason)));
     gate.refused(reason);
     end
 }
 
 /// Serves a file of which this was announced.
-fn serve_file<H: Wait + Clock, S: Alter + Drop, J: Naming, G: Gate, R: Read + Drop, W: Write>(
+fn serve_file<H: Wait + Clock, S: Alter + Drop, J: ServiceBrand, G: Gate, R: Read + Drop, W: Write>(
     rt: &H,
     alloc: Global,
     service: &Service<S, J>,
@@ -201,8 +207,8 @@ fn serve_file<H: Wait + Clock, S: Alter + Drop, J: Naming, G: Gate, R: Read + Dr
     let end = write_outcome(writer, commands.len(), &came);
     match came {
         Ok(Some(last)) => gate.made(last, commands.as_slice()),
-        Err(NotMade::Refused(reason)) => gate.refused(reason),
-        Ok(None) | Err(NotMade::Moved(_)) => {}
+        Err(SubmitError::Refused(reason)) => gate.refused(reason),
+        Ok(None) | Err(SubmitError::Moved(_)) => {}
     }
     end
 }
@@ -225,7 +231,7 @@ fn let_go<R: Read>(reader: &mut R, blocks: usize)
 pub(crate) fn turn_away<
     H: Wait + Clock,
     S: Alter + Drop,
-    J: Naming,
+    J: ServiceBrand,
     G: Gate,
     R: Read + Drop,
     W: Write,
@@ -274,7 +280,14 @@ pub(crate) fn turn_away<
 /// The looker learns the receipt, and is offline at the end. The gate is called round each line of the file, and then
 /// for each command that was made, or once more if they are refused, with the number of the last line. A file that fails
 /// before its first line is over counts as one line. After a refusal the rest of the input is read, up to 64 MiB, and let go.
-pub fn serve_atomic<H: Wait + Clock, S: Alter + Drop, J: Naming, G: Gate, R: Read + Drop, W: Write>(
+pub fn serve_atomic<
+    H: Wait + Clock,
+    S: Alter + Drop,
+    J: ServiceBrand,
+    G: Gate,
+    R: Read + Drop,
+    W: Write,
+>(
     rt: &H,
     alloc: Global,
     service: &Service<S, J>,
@@ -301,7 +314,7 @@ pub fn serve_atomic<H: Wait + Clock, S: Alter + Drop, J: Naming, G: Gate, R: Rea
     };
     let (announced, mut file) = match read_announcement(reader) {
         Ok(opened) => opened,
-        Err(NotAnnounced { reason, reader }) => {
+        Err(AnnouncementError { reason, reader }) => {
             observer.before(1);
             let end = refuse(&observer, writer, reason);
             return FileServed { end, reader };

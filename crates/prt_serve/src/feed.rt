@@ -2,7 +2,7 @@
 ghost use Rattle.std.specs.Prelude.{◌≡◌, ◌++◌, IfOk, IfErr, None, OnErr, Some, codes};
 ghost use Rattle.std.specs.Arc.{arc_value};
 ghost use Rattle.prt_feed.specs.Feed.{change_line, opening_text};
-ghost use Rattle.prt_front.specs.Line.{Line, line_state};
+ghost use Rattle.prt_published.specs.Line.{Line, line_state};
 ghost use Rattle.prt_serve.specs.Feed.{Feeds, Remarks, Tells, comment_text};
 ghost use Rattle.prt_service.specs.Service.{IsFollowRefusal};
 ghost use Rattle.prt_replies.specs.Written.{Written};
@@ -14,7 +14,7 @@ use itoa::Buffer;
 use prt_command::Command;
 use prt_feed::{change_line, opening_text};
 use prt_replies::write_bytes;
-use prt_service::{Follower, Naming, News, Service, Unfollowed};
+use prt_service::{Follower, News, Service, ServiceBrand, Unfollowed};
 use prt_session::Refusal;
 use prt_version::Version;
 use sqlite::Alter;
@@ -111,7 +111,7 @@ fn write_quiet<R: Read, W: Write>(watch: &mut Watch<'_, R>, writer: &mut W) -> b
 }
 
 /// Writes each command that the follower learns, until it learns none, and comments; returns whether all of it went well.
-fn tell_on<H: Wait + Clock, J: Naming, R: Read, W: Write>(
+fn tell_on<H: Wait + Clock, J: ServiceBrand, R: Read, W: Write>(
     rt: &H,
     alloc: Global,
     follower: &mut Follower<J>,
@@ -163,7 +163,7 @@ fn place_for<'a, H: Wait + Clock, R: Read>(
 
 /// Writes what is published: the tables of a version, and, with a place, each command that the follower learns after it;
 /// returns whether all of it went well.
-fn feed<H: Wait + Clock, J: Naming, R: Read, W: Write>(
+fn feed<H: Wait + Clock, J: ServiceBrand, R: Read, W: Write>(
     rt: &H,
     alloc: Global,
     places: &Places,
@@ -205,7 +205,7 @@ fn feed<H: Wait + Clock, J: Naming, R: Read, W: Write>(
 /// # Errors
 ///
 /// Those of `Service::follow`; nothing is written then.
-pub fn serve_feed<H: Wait + Clock, S: Alter + Drop, J: Naming, R: Read, W: Write>(
+pub fn serve_feed<H: Wait + Clock, S: Alter + Drop, J: ServiceBrand, R: Read, W: Write>(
     rt: &H,
     alloc: Global,
     service: &Service<S, J>,

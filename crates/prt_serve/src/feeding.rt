@@ -7,7 +7,7 @@ use crate::gate::Gate;
 use crate::listen::{Accepting, Entrance, Limits, ServeEnd, Worked, serve_all};
 use crate::places::Places;
 use crossbeam_channel::{Receiver, Sender, bounded};
-use prt_service::{Naming, Service};
+use prt_service::{Service, ServiceBrand};
 use sqlite::Alter;
 use std::alloc::Global;
 use std::io::{self, Read, Write};
@@ -55,13 +55,12 @@ fn feed_ends<T: OpenStream + Drop>(stream: T) -> io::Result<FeedEnds<T>> {
 }
 
 /// Feeds one connection after another, until no more come. A fault ends its own feed alone, and closes its connection.
-fn feed_streams<H: Wait + Clock, S: Alter + Drop, J: Naming, T: Read + Write + OpenStream + Drop>(
-    rt: &H,
-    alloc: Global,
-    service: &Service<S, J>,
-    places: &Places,
-    streams: &Receiver<T>,
-) {
+fn feed_streams<
+    H: Wait + Clock,
+    S: Alter + Drop,
+    J: ServiceBrand,
+    T: Read + Write + OpenStream + Drop,
+>(rt: &H, alloc: Global, service: &Service<S, J>, places: &Places, streams: &Receiver<T>) {
     for stream in streams.iter(rt) {
         if let Ok(
             FeedEnds {
@@ -149,7 +148,7 @@ fn accept_feeds<H: Wait + Clock, G: Gate, T: Drop, L: OpenListener<Stream = T>>(
 fn feed_all<
     H: Threads + Wait + Clock + Sync,
     S: Alter + Drop + Send,
-    J: Naming + Send,
+    J: ServiceBrand + Send,
     G: Gate + Sync,
     T: Read + Write + OpenStream + Drop + Send,
     L: OpenListener<Stream = T> + Sync,
@@ -186,7 +185,7 @@ fn feed_all<
 pub fn serve_and_feed<
     H: Threads + Wait + Clock + Sync,
     S: Alter + Drop + Send,
-    J: Naming + Send,
+    J: ServiceBrand + Send,
     G: Gate + Sync,
     T: Read + Write + OpenStream + Drop + Send,
     L: OpenListener<Stream = T> + Drop + Sync,

@@ -3,7 +3,7 @@ ghost use Rattle.std.specs.Prelude.{◌≡◌, ◌+◌, ◌<◌, ◌^◌, ◌++�
 ghost use Rattle.prt_command.specs.Reading.{reading};
 ghost use Rattle.prt_command.specs.declared.request.Command.{Command};
 ghost use Rattle.prt_feed.specs.Feed.{change_lines, feed_text, opening_text};
-ghost use Rattle.prt_front.specs.Line.{Line};
+ghost use Rattle.prt_published.specs.Line.{Line};
 ghost use Rattle.prt_listing.specs.QueryText.{lines_text};
 ghost use Rattle.prt_serve.specs.Feed.{Piece, commands_in, comment_text, told_lines, without_comments};
 ghost use Rattle.prt_serve.specs.Lists.{Shows};

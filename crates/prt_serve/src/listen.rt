@@ -12,7 +12,7 @@ use crate::shift::Shift;
 use crate::turnstile::Turnstile;
 use crate::worker::{Kind, Served, work};
 use crossbeam_channel::{Receiver, Sender, bounded};
-use prt_service::{Naming, Service};
+use prt_service::{Service, ServiceBrand};
 use prt_session::Refusal;
 use sqlite::Alter;
 use std::alloc::{AllocError, Global};
@@ -82,13 +82,13 @@ pub struct ServeEnd {
 
 /// How serving ended, and what came of the workers.
 #[derive(Drop)]
-pub struct Worked<J: Naming> {
+pub struct Worked<J: ServiceBrand> {
     pub end: ServeEnd,
     /// The shift of each worker that got a looker.
     pub shifts: Vec<Shift<J>>,
 }
 
-impl<J: Naming> Worked<J> {
+impl<J: ServiceBrand> Worked<J> {
     /// Makes that of workers for which there is no memory.
     fn failed(alloc: Global) -> Worked<J>
         ensures { result.end.accepting ≡ Accepting.Failed }
@@ -239,7 +239,14 @@ fn accept_all<
 
 /// A worker whose thread is still to be started.
 #[derive(Drop)]
-struct Worker<'a, H: Wait + Clock, S: Alter + Drop, J: Naming, G: Gate, T: Read + Write + Drop> {
+struct Worker<
+    'a,
+    H: Wait + Clock,
+    S: Alter + Drop,
+    J: ServiceBrand,
+    G: Gate,
+    T: Read + Write + Drop,
+> {
     rt: &'a H,
     alloc: Global,
     service: &'a Service<S, J>,
@@ -248,7 +255,7 @@ struct Worker<'a, H: Wait + Clock, S: Alter + Drop, J: Naming, G: Gate, T: Read 
     idle: Option<Duration>,
 }
 
-impl<'a, H: Wait + Clock, S: Alter + Drop, J: Naming, G: Gate, T: Read + Write + Drop> Worker<
+impl<'a, H: Wait + Clock, S: Alter + Drop, J: ServiceBrand, G: Gate, T: Read + Write + Drop> Worker<
     'a,
     H,
     S,
@@ -350,12 +357,12 @@ impl<T: Read + Write + OpenStream + Drop> Channels<T> {
 
 /// The threads of workers, and memory for their shifts.
 #[derive(Drop)]
-struct Crew<J: Naming> {
+struct Crew<J: ServiceBrand> {
     threads: Vec<JoinHandle<Result<Shift<J>, Refusal>>>,
     shifts: Vec<Shift<J>>,
 }
 
-impl<J: Naming> Crew<J> {
+impl<J: ServiceBrand> Crew<J> {
     /// Gets memory for so many workers.
     fn new(alloc: Global, workers: usize) -> Result<Crew<J>, AllocError>
         ensures { IfOk result (λ crew. (vec_len crew.threads ≡ 0) × (vec_len crew.shifts ≡ 0)) }
@@ -419,12 +426,12 @@ impl<J: Naming> Crew<J> {
 
 /// The workers that were started, and how accepting ended among them.
 #[derive(Drop)]
-struct Manned<J: Naming> {
+struct Manned<J: ServiceBrand> {
     crew: Crew<J>,
     accepting: Accepting,
 }
 
-impl<J: Naming> Manned<J> {
+impl<J: ServiceBrand> Manned<J> {
     /// Makes that of workers of which one, or what is to accept for them, could not be started.
     fn failed(crew: Crew<J>) -> Manned<J>
         ensures { result ≡ record { crew = crew; accepting = Accepting.Failed } }
@@ -452,7 +459,7 @@ fn start_workers<
     E: 's,
     H: Wait + Clock + Sync + 's,
     S: Alter + Drop + Send + 's,
-    J: Naming + Send + 's,
+    J: ServiceBrand + Send + 's,
     G: Gate + Sync + 's,
     T: Read + Write + OpenStream + Drop + Send + 's,
 >(scope: &Scope<'s, E>, like: Worker<'s, H, S, J, G, T>, workers: usize, crew: &mut Crew<J>) -> bool
@@ -482,7 +489,7 @@ fn start_workers<
 fn accept_among_workers<
     H: Threads + Wait + Clock + Sync,
     S: Alter + Drop + Send,
-    J: Naming + Send,
+    J: ServiceBrand + Send,
     G: Gate + Sync,
     T: Read + Write + OpenStream + Drop + Send,
     L: OpenListener<Stream = T> + Drop + Sync,
@@ -542,7 +549,7 @@ fn accept_among_workers<
 pub fn serve_all<
     H: Threads + Wait + Clock + Sync,
     S: Alter + Drop + Send,
-    J: Naming + Send,
+    J: ServiceBrand + Send,
     G: Gate + Sync,
     T: Read + Write + OpenStream + Drop + Send,
     L: OpenListener<Stream = T> + Drop + Sync,

@@ -142,7 +142,7 @@ impl Announcement {
 
 /// A reader that failed before the file.
 #[derive(Drop)]
-pub(crate) struct NotAnnounced<R: Read + Drop> {
+pub(crate) struct AnnouncementError<R: Read + Drop> {
     pub(crate) reason: Refusal,
     pub(crate) reader: R,
 }
@@ -154,21 +154,21 @@ pub(crate) struct NotAnnounced<R: Read + Drop> {
 /// `ReadFault` if the reader fails before the file's first line is over.
 pub(crate) fn read_announcement<R: Read + Drop>(
     mut reader: R,
-) -> Result<(Announcement, Resumed<Resumed<R>>), NotAnnounced<R>>
+) -> Result<(Announcement, Resumed<Resumed<R>>), AnnouncementError<R>>
     ensures opens { IfOk result (λ opened. AreAnnounced opened.0 (R.remaining reader) (resumed_remaining (resumed_remaining R.remaining) opened.1)) }
     ensures fault { IfErr result (λ failed. (failed.reason ≡ Refusal.ReadFault) × HasLetGo (R.remaining reader) (R.remaining failed.reader)) }
 {
     let mut head = ArrayVec::<u8, LONGEST_HEAD>::new();
     let number = match read_opening(Saying::At, &mut reader, &mut head) {
         Ok(number) => number,
-        Err(reason) => return Err(NotAnnounced { reason, reader }),
+        Err(reason) => return Err(AnnouncementError { reason, reader }),
     };
     let mut rest = Resumed::new(head, reader);
     let mut next = ArrayVec::<u8, LONGEST_HEAD>::new();
     let count = match read_opening(Saying::Commands, &mut rest, &mut next) {
         Ok(count) => count,
         Err(reason) => {
-            return Err(NotAnnounced {
+            return Err(AnnouncementError {
                 reason,
                 reader: rest.into_reader(),
             });

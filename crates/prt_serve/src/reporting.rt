@@ -5,7 +5,7 @@ use crate::accepting::{Accepted, accept_one};
 use crate::feeding::serve_and_feed;
 use crate::gate::Gate;
 use crate::listen::{Accepting, Entrance, Limits, ServeEnd, Worked, serve_all};
-use prt_service::{Naming, Service};
+use prt_service::{Service, ServiceBrand};
 use sqlite::Alter;
 use std::alloc::Global;
 use std::io::{Read, Write};
@@ -76,7 +76,7 @@ fn report_all<H: Wait + Clock, G: Gate, T: Write + OpenStream + Drop, L: OpenLis
 fn serve_or_feed<
     H: Threads + Wait + Clock + Sync,
     S: Alter + Drop + Send,
-    J: Naming + Send,
+    J: ServiceBrand + Send,
     G: Gate + Sync,
     T: Read + Write + OpenStream + Drop + Send,
     L: OpenListener<Stream = T> + Drop + Sync,
@@ -106,7 +106,7 @@ fn serve_or_feed<
 pub fn serve_entrances<
     H: Threads + Wait + Clock + Sync,
     S: Alter + Drop + Send,
-    J: Naming + Send,
+    J: ServiceBrand + Send,
     G: Gate + Sync,
     T: Read + Write + OpenStream + Drop + Send,
     L: OpenListener<Stream = T> + Drop + Sync,

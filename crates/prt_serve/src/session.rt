@@ -1,6 +1,6 @@
 //! A session over a service.
 ghost use Rattle.std.specs.Prelude.{◌≡◌, IfErr, IfOk, IfSome, MatchResult, None, Some};
-ghost use Rattle.prt_front.specs.Line.{Begins, line_state};
+ghost use Rattle.prt_published.specs.Line.{Begins, line_state};
 ghost use Rattle.prt_listing.specs.QueryText.{query_text};
 ghost use Rattle.prt_serve.specs.Serving.{Serves};
 
@@ -8,7 +8,7 @@ use crate::connection::Pipeline;
 use crate::gate::{Gate, Gated};
 use prt_command::{Query, Request};
 use prt_listing::query_text;
-use prt_service::{Looker, Naming, Service};
+use prt_service::{Looker, Service, ServiceBrand};
 use prt_session::{Executor, OnRefusal, Refusal, Reply, ScriptEnd, Text, run_session};
 use prt_version::Version;
 use sqlite::Alter;
@@ -20,7 +20,7 @@ use std::time::Clock;
 
 /// Where a looker executes the requests of a session.
 #[derive(Drop)]
-pub struct Visit<'a, H: Wait + Clock, S: Alter + Drop, J: Naming> {
+pub struct Visit<'a, H: Wait + Clock, S: Alter + Drop, J: ServiceBrand> {
     rt: &'a H,
     alloc: Global,
     service: &'a Service<S, J>,
@@ -34,7 +34,7 @@ pub struct Visit<'a, H: Wait + Clock, S: Alter + Drop, J: Naming> {
 /// # Errors
 ///
 /// Those of `Looker::refresh`; it stays offline, and may know more.
-fn go_online<H: Wait + Clock, S: Alter + Drop, J: Naming>(
+fn go_online<H: Wait + Clock, S: Alter + Drop, J: ServiceBrand>(
     visit: &Visit<'_, H, S, J>,
     looker: &mut Looker,
 ) -> Result<(), Refusal>
@@ -50,7 +50,7 @@ fn go_online<H: Wait + Clock, S: Alter + Drop, J: Naming>(
 }
 
 /// Has the looker hold nothing. What it knows stays.
-fn go_offline<H: Wait + Clock, S: Alter + Drop, J: Naming>(
+fn go_offline<H: Wait + Clock, S: Alter + Drop, J: ServiceBrand>(
     visit: &Visit<'_, H, S, J>,
     looker: &mut Looker,
 )
@@ -64,7 +64,7 @@ fn go_offline<H: Wait + Clock, S: Alter + Drop, J: Naming>(
 
 /// Checks whether the next line is executed before anything waits for the client, the writing of this answer included. That
 /// line came before the version that answered was fetched.
-fn goes_on_after<H: Wait + Clock, S: Alter + Drop, J: Naming>(
+fn goes_on_after<H: Wait + Clock, S: Alter + Drop, J: ServiceBrand>(
     visit: &Visit<'_, H, S, J>,
     answered: &Result<Text, Refusal>,
 ) -> bool {
@@ -91,7 +91,7 @@ fn answer_from(alloc: Global, version: &Version, query: &Query) -> Result<Text, 
 /// Answers a query from the version that a looker holds. An answer on a packet is made while it is held, and the looker
 /// stays online for the next line if nothing waits before that. It goes offline before it makes a listing, which may take
 /// long.
-fn answer<H: Wait + Clock, S: Alter + Drop, J: Naming>(
+fn answer<H: Wait + Clock, S: Alter + Drop, J: ServiceBrand>(
     visit: &Visit<'_, H, S, J>,
     looker: &mut Looker,
     query: &Query,
@@ -117,9 +117,10 @@ fn answer<H: Wait + Clock, S: Alter + Drop, J: Naming>(
 /// A looker executes requests as the service's guest: it submits each command and learns its receipt, and looks again for a
 /// query, unless it is online still. From one line to the next it stays online only if nothing waits for the client between
 /// them, so a client that doesn't read its replies holds back no version. It is offline while a command is submitted.
-impl<'a, H: Wait + Clock, S: Alter + Drop, J: Naming> Executor<Visit<'a, H, S, J>> for Looker {
+impl<'a, H: Wait + Clock, S: Alter + Drop, J: ServiceBrand> Executor<Visit<'a, H, S, J>>
+    for Looker {
     ghost use Rattle.std.specs.Prelude.{◌≡◌, IfSome};
-    ghost use Rattle.prt_front.specs.Line.{Line};
+    ghost use Rattle.prt_published.specs.Line.{Line};
     ghost use Rattle.prt_serve.specs.Requests.{Event, service_may, service_turn};
     ghost use Rattle.prt_serve.specs.Growing.{Grows, grows_over_all};
 
@@ -177,7 +178,7 @@ impl<'a, H: Wait + Clock, S: Alter + Drop, J: Naming> Executor<Visit<'a, H, S, J
 /// ends as `run_session` says; what the gate does beside waiting is no part of it.
 ///
 /// `pipeline` is what the two ends report, if they do. Without it each query is answered from a version of its own.
-pub fn serve_session<H: Wait + Clock, S: Alter + Drop, J: Naming, G: Gate, R: Read, W: Write>(
+pub fn serve_session<H: Wait + Clock, S: Alter + Drop, J: ServiceBrand, G: Gate, R: Read, W: Write>(
     rt: &H,
     alloc: Global,
     service: &Service<S, J>,

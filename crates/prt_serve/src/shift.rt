@@ -1,10 +1,10 @@
 //! What a worker did.
 ghost use Rattle.std.specs.Prelude.{◌≡◌, false, true};
-ghost use Rattle.prt_front.specs.Line.{Begins};
+ghost use Rattle.prt_published.specs.Line.{Begins};
 ghost use Rattle.prt_serve.specs.Kept.{Keeps};
 
-use prt_front::Known;
-use prt_service::{Departure, Naming};
+use prt_published::Known;
+use prt_service::{Departure, ServiceBrand};
 use std::marker::{Model, PhantomData};
 
 /// What a worker of the named front did until no more jobs came: its looker has left, and its sessions are counted. [`work`]
@@ -15,13 +15,13 @@ use std::marker::{Model, PhantomData};
 ///
 /// [`work`]: crate::work
 #[derive(Drop)]
-pub struct Shift<J: Naming> {
+pub struct Shift<J: ServiceBrand> {
     departure: Departure,
     served: u64,
     of: PhantomData<J>,
 }
 
-impl<J: Naming> Model for Shift<J> {
+impl<J: ServiceBrand> Model for Shift<J> {
     ghost use Rattle.std.specs.Prelude.{◌≡◌};
     ghost use Rattle.prt_serve.specs.Kept.{Keeps, Work};
 
@@ -32,7 +32,7 @@ impl<J: Naming> Model for Shift<J> {
     ghost invariant = { λ s. (s.departure.book ≡ J.book) × (s.departure.base ≡ J.base) × Keeps s.departure (record { known = s.departure; served = s.served }) };
 }
 
-impl<J: Naming> Shift<J> {
+impl<J: ServiceBrand> Shift<J> {
     /// Makes that of a worker whose looker left so, after this many sessions.
     pub(crate) fn new(departure: Departure, served: u64) -> Shift<J>
         requires of { (departure.book ≡ J.book) × (departure.base ≡ J.base) }

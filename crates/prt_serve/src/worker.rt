@@ -1,7 +1,7 @@
 //! Workers: each serves one connection after another, a session or an atomic file.
 ghost use Rattle.std.specs.Prelude.{◌≡◌, ◌^◌, ◌-◌, List, None, IfErr, IfOk, length, min};
 ghost use Rattle.std.specs.Iterator.{Drains, IsFinite};
-ghost use Rattle.prt_front.specs.Line.{Begins, Line};
+ghost use Rattle.prt_published.specs.Line.{Begins, Line};
 ghost use Rattle.prt_serve.specs.Jobs.{ServesAll, ServesCounted};
 ghost use Rattle.prt_serve.specs.Serving.{Serves};
 ghost use Rattle.prt_serve.specs.Together.{ServesTogether};
@@ -11,7 +11,7 @@ use crate::connection::Pipeline;
 use crate::gate::Gate;
 use crate::session::serve_session;
 use crate::shift::Shift;
-use prt_service::{Looker, Naming, Service};
+use prt_service::{Looker, Service, ServiceBrand};
 use prt_session::{Refusal, ScriptEnd};
 use sqlite::Alter;
 use std::alloc::Global;
@@ -55,7 +55,14 @@ pub struct Served<R: Read + Drop, W: Write + Drop> {
 
 /// Serves the session of a job, as `serve_session` does: its lines are read from the job's own reader, and its replies go
 /// to the job's own writer.
-fn serve_job<H: Wait + Clock, S: Alter + Drop, J: Naming, G: Gate, R: Read + Drop, W: Write + Drop>(
+fn serve_job<
+    H: Wait + Clock,
+    S: Alter + Drop,
+    J: ServiceBrand,
+    G: Gate,
+    R: Read + Drop,
+    W: Write + Drop,
+>(
     rt: &H,
     alloc: Global,
     service: &Service<S, J>,
@@ -101,7 +108,7 @@ fn is_past<H: Clock>(rt: &H, until: Option<Duration>) -> bool {
 fn serve_together<
     H: Wait + Clock,
     S: Alter + Drop,
-    J: Naming,
+    J: ServiceBrand,
     G: Gate,
     R: Read + Drop,
     W: Write + Drop,
@@ -176,7 +183,7 @@ fn serve_together<
 fn serve_jobs<
     H: Wait + Clock,
     S: Alter + Drop,
-    J: Naming,
+    J: ServiceBrand,
     G: Gate,
     R: Read + Drop,
     W: Write + Drop,
@@ -217,7 +224,7 @@ fn serve_jobs<
 fn work_with<
     H: Wait + Clock,
     S: Alter + Drop,
-    J: Naming,
+    J: ServiceBrand,
     G: Gate,
     R: Read + Drop,
     W: Write + Drop,
@@ -251,7 +258,7 @@ fn work_with<
 pub fn work<
     H: Wait + Clock,
     S: Alter + Drop,
-    J: Naming,
+    J: ServiceBrand,
     G: Gate,
     R: Read + Drop,
     W: Write + Drop,

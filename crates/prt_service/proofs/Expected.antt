@@ -1,7 +1,7 @@
 -- Commands that are made at the number that was expected.
 use Rattle.std.proofs.Common.{◌≡◌, ◌+◌, ℕ, Option, Some, None, IfSome, List, ◌++◌, ap, arith, length, length-append, refl, subst, sym, ◌∙◌}
 use Rattle.prt_command.specs.declared.request.Command.{Command}
-use Rattle.prt_front.specs.Line.{Line, grown_by, line_state}
+use Rattle.prt_published.specs.Line.{Line, grown_by, line_state}
 use Rattle.prt_service.specs.Service.{IsAfter}
 use Rattle.prt_version.proofs.Folds.{count_fold, fold_append}
 use Rattle.prt_version.specs.Accepted.{IsAccepted}

@@ -4,9 +4,9 @@ use Rattle.std.specs.Prelude.{MatchBool}
 use mathlib.Core.List.{IsPrefix}
 use Rattle.prt_command.specs.declared.request.Command.{Command}
 use Rattle.logbook.specs.Pages.{Book}
-use Rattle.prt_front.proofs.Numbers.{number_is}
-use Rattle.prt_front.proofs.Prefixes.{begins_trans, begins_whole, shorter_begins}
-use Rattle.prt_front.specs.Line.{Begins, Line, grown, line_state}
+use Rattle.prt_published.proofs.Numbers.{number_is}
+use Rattle.prt_published.proofs.Prefixes.{begins_trans, begins_whole, shorter_begins}
+use Rattle.prt_published.specs.Line.{Begins, Line, grown, line_state}
 use Rattle.prt_service.specs.Service.{EndsWith}
 use Rattle.prt_version.specs.Accepted.{IsAccepted}
 use Rattle.prt_version.specs.State.{State}

@@ -7,7 +7,7 @@ use lib.Seq.{take-append_seam}
 use Rattle.logbook.specs.Pages.{Book}
 use Rattle.prt_refusals.specs.declared.refusal.Refusal.{Refusal}
 use Rattle.prt_command.specs.declared.request.Command.{Command}
-use Rattle.prt_front.specs.Line.{Line, grown_by}
+use Rattle.prt_published.specs.Line.{Line, grown_by}
 use Rattle.prt_service.specs.Group.{answer_before}
 use Rattle.prt_service.specs.Service.{AreAnswered, EndsWith, EndsWithAll, IsAnswer}
 use Rattle.prt_version.specs.State.{State}

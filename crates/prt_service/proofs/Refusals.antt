@@ -6,7 +6,7 @@ use Rattle.sqlite.specs.Store.{Ghosts}
 use Rattle.prt_refusals.specs.declared.refusal.Refusal.{Refusal}
 use Rattle.prt_refusals.specs.declared.refusal.Refusal.TheVariants.{CountFull, Exists, Full, NoSuch}
 use Rattle.prt_command.specs.declared.request.Command.{Command}
-use Rattle.prt_front.specs.Line.{line_state}
+use Rattle.prt_published.specs.Line.{line_state}
 use Rattle.prt_version.proofs.Refused.{IsOfState, all_refused_by}
 use Rattle.prt_publisher.specs.Exits.{AreNotAcknowledged, AreNotPrepared}
 use Rattle.prt_publisher.specs.Standing.{Standing}

@@ -1,6 +1,6 @@
 -- What a follower learns, and to whom commands are reported.
 use Rattle.std.specs.Prelude.{◌≡◌, ◌==◌, ℕ, List, filter, not}
-use Rattle.prt_front.specs.Line.{Line, grown}
+use Rattle.prt_published.specs.Line.{Line, grown}
 use Rattle.prt_service.specs.declared.news.News.{News}
 use Rattle.prt_service.specs.declared.news.News.TheVariants.{Command, Quiet, Ended}
 

@@ -5,12 +5,12 @@ use Rattle.sqlite.specs.Store.{Ghosts}
 use Rattle.prt_refusals.specs.declared.refusal.Refusal.{Refusal}
 use Rattle.prt_refusals.specs.declared.refusal.Refusal.TheVariants.{NotPublished, StoreFailed}
 use Rattle.prt_command.specs.declared.request.Command.{Command}
-use Rattle.prt_front.specs.Line.{Line, grown_by, line_state}
+use Rattle.prt_published.specs.Line.{Line, grown_by, line_state}
 use Rattle.prt_publisher.specs.Exits.{AreNotAcknowledged, AreNotPublished, AreNotStored, TakesAll}
 use Rattle.prt_publisher.specs.Standing.{Standing}
 use Rattle.prt_publisher.specs.declared.phase.Phase.TheVariants.{Ready}
-use Rattle.prt_service.specs.declared.not_made.NotMade.{NotMade}
-use Rattle.prt_service.specs.declared.not_made.NotMade.TheVariants as why
+use Rattle.prt_service.specs.declared.submit_error.SubmitError.{SubmitError}
+use Rattle.prt_service.specs.declared.submit_error.SubmitError.TheVariants as why
 
 -- some of these commands, in their order, each taken once
 abbrev pub IsPartOf : List Command → List Command → Type 0
@@ -39,6 +39,6 @@ answer_before (Ok last) later = Ok (record last { list = take (length last.list 
 answer_before (Err reason) later = Err reason
 
 -- what a publisher is after commands that it did not make: if its list has another number than was expected, it is as it was, and that number is told
-abbrev pub AreNotMade : {S : Type 0} → Ghosts S → Standing (Held S) → List Command → NotMade → Standing (Held S) → Type 0
+abbrev pub AreNotMade : {S : Type 0} → Ghosts S → Standing (Held S) → List Command → SubmitError → Standing (Held S) → Type 0
 AreNotMade g old commands (why.Refused reason) new = AreNotAcknowledged g old commands reason new
 AreNotMade g old commands (why.Moved number) new = (new ≡ old) × (number ≡ (line_state old.line).count)

@@ -1,6 +1,6 @@
 -- What contracts see of a looker.
 use Rattle.std.specs.Prelude.{◌≡◌, ℕ, Option, None, Some}
-use Rattle.prt_front.specs.Line.{Begins, Line, line_state}
+use Rattle.prt_published.specs.Line.{Begins, Line, line_state}
 
 -- the list that it knows, the one that led to the version that it holds, and the number that its place has announced
 pub record Look : Type 0 where

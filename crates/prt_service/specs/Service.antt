@@ -4,9 +4,9 @@ use Rattle.logbook.specs.Pages.{Book}
 use Rattle.prt_refusals.specs.declared.refusal.Refusal.{Refusal}
 use Rattle.prt_refusals.specs.declared.refusal.Refusal.TheVariants.{Busy, Closed, CountFull, Exists, Full, NoMemory, NoSuch, NotFetched, NotPublished, StoreFailed}
 use Rattle.prt_command.specs.declared.request.Command.{Command}
-use Rattle.prt_front.specs.Line.{Line}
-use Rattle.prt_service.specs.declared.not_made.NotMade.{NotMade}
-use Rattle.prt_service.specs.declared.not_made.NotMade.TheVariants.{Moved, Refused}
+use Rattle.prt_published.specs.Line.{Line}
+use Rattle.prt_service.specs.declared.submit_error.SubmitError.{SubmitError}
+use Rattle.prt_service.specs.declared.submit_error.SubmitError.TheVariants.{Moved, Refused}
 use Rattle.prt_version.specs.State.{State}
 
 -- the commands are the last of the list
@@ -35,7 +35,7 @@ IsServiceRefusal NotPublished = Unit {0}
 IsServiceRefusal _ = ⊥
 
 -- why commands that were to be made at this number, if at one, are not made: they are refused, or the published list has another number
-abbrev pub IsWhyNotMade : Option ℕ → NotMade → Type 0
+abbrev pub IsWhyNotMade : Option ℕ → SubmitError → Type 0
 IsWhyNotMade expected (Refused reason) = IsServiceRefusal reason
 IsWhyNotMade expected (Moved number) = (other : ℕ) × (expected ≡ Some other) × (other ≢ number)
 

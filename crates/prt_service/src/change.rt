@@ -2,16 +2,16 @@
 ghost use Rattle.std.specs.Prelude.{◌≡◌, ◌-◌, ◌<◌, length, take};
 ghost use Rattle.prt_service.specs.Service.{EndsWith};
 
-use crate::Naming;
+use crate::ServiceBrand;
 use prt_command::Command;
-use prt_front::Told;
+use prt_published::Told;
 use prt_publisher::Receipt;
 use std::marker::{Model, PhantomData};
 
 /// A command that was published on the named front, and its number. Contracts see it as the published list that ends with
 /// it.
 #[derive(Drop)]
-pub(crate) struct Change<J: Naming> {
+pub(crate) struct Change<J: ServiceBrand> {
     pub(crate) number: u64,
     pub(crate) command: Command,
     /// How many commands were made together, if it is the first of them; 0 otherwise.
@@ -20,9 +20,9 @@ pub(crate) struct Change<J: Naming> {
     pub(crate) of: PhantomData<J>,
 }
 
-impl<J: Naming> Model for Change<J> {
+impl<J: ServiceBrand> Model for Change<J> {
     ghost use Rattle.std.specs.Prelude.{◌≡◌, ◌+◌, length};
-    ghost use Rattle.prt_front.specs.Line.{Line, line_state};
+    ghost use Rattle.prt_published.specs.Line.{Line, line_state};
     ghost use Rattle.prt_service.specs.Service.{EndsWith};
 
     ghost Value = { Line };
@@ -40,7 +40,7 @@ fn same(told: &Told) -> Told
     told.without_last(0)
 }
 
-impl<J: Naming> Change<J> {
+impl<J: ServiceBrand> Change<J> {
     /// Reports the command that was accepted so many commands before the last of a receipt, and how many it begins.
     pub(crate) fn new(last: &Receipt, later: u64, command: &Command, together: u64) -> Change<J>
         requires of { (last.now.book ≡ J.book) × (last.now.base ≡ J.base) }

@@ -1,9 +1,9 @@
 //! That a looker left.
 ghost use Rattle.std.specs.Prelude.{◌≡◌, MatchBool};
-ghost use Rattle.prt_front.specs.Line.{Begins};
+ghost use Rattle.prt_published.specs.Line.{Begins};
 
 use crate::spare::Returned;
-use prt_front::Known;
+use prt_published::Known;
 use std::marker::Model;
 
 /// Says that a looker returned its version, its reader and its place. [`Looker::leave`] alone makes one. Contracts see
@@ -16,7 +16,7 @@ pub struct Departure {
 }
 
 impl Model for Departure {
-    ghost use Rattle.prt_front.specs.Line.{Line};
+    ghost use Rattle.prt_published.specs.Line.{Line};
 
     ghost Value = { Line };
 

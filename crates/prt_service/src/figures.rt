@@ -1,11 +1,11 @@
 //! What the publisher of a service shows of itself.
 ghost use Rattle.std.specs.Prelude.{◌≡◌, ◌↔◌, IfSome, IsTrue, length};
 ghost use Rattle.std.specs.Arc.{arc_value};
-ghost use Rattle.prt_front.specs.Line.{line_state};
+ghost use Rattle.prt_published.specs.Line.{line_state};
 ghost use Rattle.prt_publisher.specs.declared.phase.Phase.TheVariants.{Ready};
 
-use crate::Naming;
-use crate::quiet::QuietPublisher;
+use crate::ServiceBrand;
+use crate::publisher_with_followers::PublisherWithFollowers;
 use crate::tally::Tally;
 use prt_version::Version;
 use sqlite::Alter;
@@ -29,7 +29,9 @@ pub struct Figures {
 }
 
 /// Copies what a publisher shows.
-pub(crate) fn figures_of<S: Alter + Drop, J: Naming>(publisher: &QuietPublisher<S, J>) -> Figures
+pub(crate) fn figures_of<S: Alter + Drop, J: ServiceBrand>(
+    publisher: &PublisherWithFollowers<S, J>,
+) -> Figures
     ensures number { result.number ≡ (line_state publisher.now.line).count }
     ensures rules { result.rules ≡ length (line_state publisher.now.line).rules }
     ensures version { IfSome result.version (λ version. arc_value version ≡ line_state publisher.now.line) }

@@ -1,14 +1,14 @@
 //! Followers of what is published.
 ghost use Rattle.std.specs.Prelude.{◌≡◌, ◌+◌, length};
-ghost use Rattle.prt_front.specs.Line.{line_state};
+ghost use Rattle.prt_published.specs.Line.{line_state};
 ghost use Rattle.prt_service.specs.Follow.{IsNews};
 ghost use Rattle.prt_version.specs.Accepted.{IsAccepted};
 
 use crate::change::Change;
 use crate::followers::FollowerNumber;
-use crate::{Naming, News, Service, Unfollowed};
+use crate::{News, Service, ServiceBrand, Unfollowed};
 use crossbeam_channel::{Receiver, RecvTimeoutError};
-use prt_front::{Known, Told};
+use prt_published::{Known, Told};
 use sqlite::Alter;
 use std::alloc::Global;
 use std::marker::Model;
@@ -17,7 +17,7 @@ use std::time::{Clock, Duration};
 
 /// The end of a channel to which each command comes that is published from now on.
 #[derive(Drop)]
-pub(crate) struct Changes<J: Naming> {
+pub(crate) struct Changes<J: ServiceBrand> {
     pub(crate) receiver: Receiver<Change<J>, Global>,
     pub(crate) follower: FollowerNumber,
 }
@@ -28,15 +28,15 @@ pub(crate) struct Changes<J: Naming> {
 /// Nobody waits for it, and it has no reader. One that is let go without `leave` keeps its channel until a command is
 /// published.
 #[derive(Drop)]
-pub struct Follower<J: Naming> {
+pub struct Follower<J: ServiceBrand> {
     told: Told,
     number: u64,
     changes: Changes<J>,
 }
 
-impl<J: Naming> Model for Follower<J> {
+impl<J: ServiceBrand> Model for Follower<J> {
     ghost use Rattle.std.specs.Prelude.{◌≡◌, ◌+◌, length};
-    ghost use Rattle.prt_front.specs.Line.{Line, line_state};
+    ghost use Rattle.prt_published.specs.Line.{Line, line_state};
 
     ghost Value = { Line };
 
@@ -46,7 +46,7 @@ impl<J: Naming> Model for Follower<J> {
         × (follower.number ≡ follower.told.base.count + length follower.told.list) × (follower.number ≡ (line_state follower.told).count) };
 }
 
-impl<J: Naming> Follower<J> {
+impl<J: ServiceBrand> Follower<J> {
     /// Makes one that knows this list, which has this number.
     pub(crate) fn new(known: &Known, number: u64, changes: Changes<J>) -> Follower<J>
         requires of { (known.now.book ≡ J.book) × (known.now.base ≡ J.base) }

@@ -3,11 +3,11 @@ ghost use Rattle.std.specs.Prelude.{◌≡◌, ◌-◌, ◌<◌, [], ◌∷◌, 
 ghost use Rattle.prt_service.specs.Follow.{others};
 ghost use Rattle.prt_service.specs.Service.{EndsWith, EndsWithAll};
 
-use crate::Naming;
+use crate::ServiceBrand;
 use crate::change::Change;
 use crossbeam_channel::Sender;
 use prt_command::Command;
-use prt_front::Told;
+use prt_published::Told;
 use prt_publisher::Receipt;
 use std::alloc::Global;
 use std::marker::Model;
@@ -38,7 +38,7 @@ pub struct Unfollowed {
 }
 
 impl Model for Unfollowed {
-    ghost use Rattle.prt_front.specs.Line.{Line};
+    ghost use Rattle.prt_published.specs.Line.{Line};
 
     ghost Value = { Line };
 
@@ -47,12 +47,12 @@ impl Model for Unfollowed {
 
 /// Where commands are reported to one follower. Contracts see it as the follower's number.
 #[derive(Drop)]
-struct Recipient<J: Naming> {
+struct Recipient<J: ServiceBrand> {
     number: u64,
     sender: Sender<Change<J>, Global>,
 }
 
-impl<J: Naming> Model for Recipient<J> {
+impl<J: ServiceBrand> Model for Recipient<J> {
     ghost use Rattle.std.specs.Prelude.{ℕ};
 
     ghost Value = { ℕ };
@@ -63,7 +63,7 @@ impl<J: Naming> Model for Recipient<J> {
 /// Where commands are reported to the followers of a service. Each has a channel of its own, and nobody waits for it.
 /// Contracts see it as their numbers.
 #[derive(Drop)]
-pub(crate) struct Followers<J: Naming> {
+pub(crate) struct Followers<J: ServiceBrand> {
     recipients: Vec<Recipient<J>>,
     /// The number of the next one: the others have smaller ones.
     next: u64,
@@ -71,7 +71,7 @@ pub(crate) struct Followers<J: Naming> {
     is_ended: bool,
 }
 
-impl<J: Naming> Model for Followers<J> {
+impl<J: ServiceBrand> Model for Followers<J> {
     ghost use Rattle.std.specs.Prelude.{ℕ, ◌<◌, All, List};
 
     ghost Value = { List ℕ };
@@ -81,7 +81,7 @@ impl<J: Naming> Model for Followers<J> {
     ghost invariant = { λ followers. All (λ number. number < followers.next) followers.recipients.items };
 }
 
-impl<J: Naming> Followers<J> {
+impl<J: ServiceBrand> Followers<J> {
     pub(crate) fn new(alloc: Global) -> Followers<J>
         ensures { result ≡ [] }
     {

@@ -1,11 +1,11 @@
 //! Commands that wait and are submitted together.
 ghost use Rattle.std.specs.Prelude.{◌≡◌, ◌≤◌, ◌++◌, [], ◌∷◌, IfErr, IfOk, IfSome, None, false, length, true};
-ghost use Rattle.prt_front.specs.Line.{line_state};
+ghost use Rattle.prt_published.specs.Line.{line_state};
 ghost use Rattle.prt_service.specs.Group.{AreSubmitted, HaveUnknownFate, IsPartOf, have_unknown_fate};
 ghost use Rattle.prt_service.specs.Service.{AreAnswered};
 
-use crate::Naming;
-use crate::quiet::QuietPublisher;
+use crate::ServiceBrand;
+use crate::publisher_with_followers::PublisherWithFollowers;
 use crate::submitted::Submitted;
 use crate::waiting::Waiting;
 use prt_command::{Command, Refusal};
@@ -19,12 +19,12 @@ use std::sync::Wait;
 
 /// Commands that wait, for one transaction: each is accepted after those before it. Contracts see it as the set of them.
 #[derive(Drop)]
-pub(crate) struct Group<J: Naming> {
+pub(crate) struct Group<J: ServiceBrand> {
     waiting: Vec<Waiting<J>>,
     set: ChangeSet,
 }
 
-impl<J: Naming> Model for Group<J> {
+impl<J: ServiceBrand> Model for Group<J> {
     ghost use Rattle.std.specs.Prelude.{◌≡◌};
     ghost use Rattle.prt_publisher.specs.ChangeSet.{Planned};
 
@@ -35,7 +35,7 @@ impl<J: Naming> Model for Group<J> {
     ghost invariant = { λ group. group.waiting.items ≡ group.set.commands };
 }
 
-impl<J: Naming> Group<J> {
+impl<J: ServiceBrand> Group<J> {
     fn new(alloc: Global, published: &Version) -> Result<Group<J>, Refusal>
         ensures { IfOk result (λ group. group ≡ record { base = published.now; commands = [] }) }
     {
@@ -79,7 +79,7 @@ impl<J: Naming> Group<J> {
     /// has changed.
     fn submit<S: Alter + Drop, W: Wait>(
         self,
-        publisher: &mut QuietPublisher<S, J>,
+        publisher: &mut PublisherWithFollowers<S, J>,
         rt: &W,
         alloc: Global,
         domain: &Domain,
@@ -129,8 +129,8 @@ fn have_unknown_fate(reason: &Refusal) -> bool
 /// Submits the commands that wait, in one transaction those that are accepted one after the other. The others are let go, as
 /// are all if the publisher has no room or no memory for them together: a thread that waits for one submits it by
 /// itself.
-pub(crate) fn submit_waiting<S: Alter + Drop, J: Naming, W: Wait>(
-    publisher: &mut QuietPublisher<S, J>,
+pub(crate) fn submit_waiting<S: Alter + Drop, J: ServiceBrand, W: Wait>(
+    publisher: &mut PublisherWithFollowers<S, J>,
     rt: &W,
     alloc: Global,
     domain: &Domain,

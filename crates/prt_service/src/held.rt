@@ -1,9 +1,9 @@
 //! What a looker holds while it is online.
 ghost use Rattle.std.specs.Prelude.{◌≡◌};
 ghost use Rattle.std.specs.Arc.{arc_value};
-ghost use Rattle.prt_front.specs.Line.{line_state};
+ghost use Rattle.prt_published.specs.Line.{line_state};
 
-use prt_front::Known;
+use prt_published::Known;
 use prt_version::Version;
 use std::marker::Model;
 use std::sync::Arc;
@@ -18,7 +18,7 @@ pub(crate) struct HeldVersion {
 impl Model for HeldVersion {
     ghost use Rattle.std.specs.Prelude.{◌≡◌};
     ghost use Rattle.std.specs.Arc.{arc_value};
-    ghost use Rattle.prt_front.specs.Line.{Line, line_state};
+    ghost use Rattle.prt_published.specs.Line.{Line, line_state};
 
     ghost Value = { Line };
 

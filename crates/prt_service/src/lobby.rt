@@ -2,7 +2,7 @@
 ghost use Rattle.std.specs.Prelude.{◌≡◌, [], length};
 ghost use Rattle.prt_service.specs.Lobby.{HasEntered};
 
-use crate::Naming;
+use crate::ServiceBrand;
 use crate::waiting::Waiting;
 use std::alloc::Global;
 use std::marker::Model;
@@ -23,7 +23,7 @@ const LONGEST_PAUSE: u64 = 1;
 
 /// The commands that wait, in the order in which they came. Contracts see it as their list.
 #[derive(Drop)]
-pub(crate) struct Lobby<J: Naming> {
+pub(crate) struct Lobby<J: ServiceBrand> {
     waiting: Vec<Waiting<J>>,
     /// How many commands the last group had.
     answered: usize,
@@ -31,7 +31,7 @@ pub(crate) struct Lobby<J: Naming> {
     pause: Duration,
 }
 
-impl<J: Naming> Model for Lobby<J> {
+impl<J: ServiceBrand> Model for Lobby<J> {
     ghost use Rattle.std.specs.Prelude.{List};
     ghost use Rattle.prt_command.specs.declared.request.Command as requests;
 
@@ -50,7 +50,7 @@ pub(crate) enum Entered {
     Full,
 }
 
-impl<J: Naming> Lobby<J> {
+impl<J: ServiceBrand> Lobby<J> {
     pub(crate) fn new(alloc: Global) -> Lobby<J>
         ensures { result ≡ [] }
     {

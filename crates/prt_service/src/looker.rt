@@ -1,14 +1,14 @@
 //! Readers of one version at a time.
 ghost use Rattle.std.specs.Prelude.{◌≡◌, ◌↔◌, None, Some, IfErr, IfSome, IsSome, IsTrue, MatchResult};
 ghost use Rattle.std.specs.Arc.{arc_value};
-ghost use Rattle.prt_front.specs.Line.{Begins, line_state};
+ghost use Rattle.prt_published.specs.Line.{Begins, line_state};
 ghost use Rattle.prt_service.specs.Look.{Look};
 ghost use Rattle.prt_version.specs.Select.{select};
 
 use crate::held::HeldVersion;
-use crate::{Departure, Naming, Service};
-use prt_front::FrontReader;
+use crate::{Departure, Service, ServiceBrand};
 use prt_grace::Place;
+use prt_published::FrontReader;
 use prt_publisher::Receipt;
 use prt_version::{Answer, Packet, Refusal, Version};
 use sqlite::Alter;
@@ -101,7 +101,7 @@ impl Looker {
     ///
     /// `NotFetched` if the front can't be entered, its version has as many owners as can be counted, or the version is
     /// older than what the looker has announced. It then holds and has announced what it had, and may know more.
-    pub fn refresh<S: Alter + Drop, J: Naming, W: Wait>(
+    pub fn refresh<S: Alter + Drop, J: ServiceBrand, W: Wait>(
         &mut self,
         rt: &W,
         service: &Service<S, J>,
@@ -133,7 +133,11 @@ impl Looker {
     }
 
     /// Releases its version, and goes offline. What it knows stays.
-    pub fn rest<S: Alter + Drop, J: Naming, W: Wait>(&mut self, rt: &W, service: &Service<S, J>)
+    pub fn rest<S: Alter + Drop, J: ServiceBrand, W: Wait>(
+        &mut self,
+        rt: &W,
+        service: &Service<S, J>,
+    )
         ensures { self.new ≡ record self.old { held = None; announced = None } }
     {
         drop(self.held.take());
@@ -142,7 +146,7 @@ impl Looker {
 
     /// Hands the version that it holds to the caller, and goes offline: however long the caller keeps the version, no
     /// publication waits for it. What it knows stays. It is online.
-    pub fn keep<S: Alter + Drop, J: Naming, W: Wait>(
+    pub fn keep<S: Alter + Drop, J: ServiceBrand, W: Wait>(
         &mut self,
         rt: &W,
         service: &Service<S, J>,
@@ -161,7 +165,7 @@ impl Looker {
 
     /// Hands its version, then its reader, and then its place back to the service that it is of: a looker that gets the
     /// place finds a reader. The departure says so, with the list that it knew.
-    pub fn leave<S: Alter + Drop, J: Naming, W: Wait>(
+    pub fn leave<S: Alter + Drop, J: ServiceBrand, W: Wait>(
         self,
         rt: &W,
         service: &Service<S, J>,

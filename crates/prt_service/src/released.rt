@@ -1,6 +1,6 @@
 //! What a service leaves at its end.
 
-use prt_front::Known;
+use prt_published::Known;
 use sqlite::{Alter, Connection};
 
 /// What a service leaves at its end.

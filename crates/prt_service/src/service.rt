@@ -2,7 +2,7 @@
 ghost use Rattle.std.specs.Prelude.{◌≡◌, ◌≤◌, All, None, IfErr, IfOk, IfSome, length};
 ghost use Rattle.std.specs.Arc.{arc_value};
 ghost use Rattle.prt_command.specs.Storable.{IsStorable};
-ghost use Rattle.prt_front.specs.Line.{line_state};
+ghost use Rattle.prt_published.specs.Line.{line_state};
 ghost use Rattle.prt_publisher.specs.Standing.{IsQuiet};
 ghost use Rattle.prt_service.specs.Named.{IsNamed, IsReleased};
 ghost use Rattle.prt_service.specs.Service.{EndsWith, EndsWithAll, IsAfter, IsAnswer, IsFollowRefusal, IsServiceRefusal, IsWhyNotMade};
@@ -12,16 +12,16 @@ use crate::follower::Changes;
 use crate::followers::FollowerNumber;
 use crate::group::submit_waiting;
 use crate::lobby::{Entered, Lobby};
-use crate::not_made::NotMade;
-use crate::quiet::QuietPublisher;
+use crate::publisher_with_followers::PublisherWithFollowers;
 use crate::spare::{Returned, SpareReaders};
+use crate::submit_error::SubmitError;
 use crate::tally::{Commit, Stopwatch};
 use crate::waiting::Waiting;
-use crate::{Follower, Looker, Naming, Released, Unfollowed};
+use crate::{Follower, Looker, Released, ServiceBrand, Unfollowed};
 use crossbeam_channel::bounded;
 use prt_command::{Command, Refusal};
-use prt_front::{FrontReader, Told};
 use prt_grace::{Domain, Retention};
+use prt_published::{FrontReader, Told};
 use prt_publisher::{Publisher, Receipt, Seats};
 use prt_version::Version;
 use sqlite::{Alter, Error};
@@ -54,15 +54,15 @@ const MOST_WAITS: u32 = 4;
 ///
 /// End it by `end`: the drop of its front frees no memory.
 #[derive(Drop)]
-pub struct Service<S: Alter + Drop, J: Naming> {
-    publisher: Mutex<QuietPublisher<S, J>>,
+pub struct Service<S: Alter + Drop, J: ServiceBrand> {
+    publisher: Mutex<PublisherWithFollowers<S, J>>,
     lobby: Mutex<Lobby<J>>,
     domain: Domain,
     spare: Mutex<SpareReaders<J>>,
     alloc: Global,
 }
 
-impl<S: Alter + Drop, J: Naming> Service<S, J> {
+impl<S: Alter + Drop, J: ServiceBrand> Service<S, J> {
     /// Shares a publisher of the named front, which is ready or closed, its readers, and its domain. Takes no memory.
     pub fn new(publisher: Publisher<S>, seats: Seats, domain: Domain) -> Service<S, J>
         requires quiet { IsQuiet publisher.phase }
@@ -71,7 +71,7 @@ impl<S: Alter + Drop, J: Naming> Service<S, J> {
     {
         let alloc = *publisher.published().shared_rules().allocator();
         Service {
-            publisher: Mutex::new(QuietPublisher::new(alloc, publisher)),
+            publisher: Mutex::new(PublisherWithFollowers::new(alloc, publisher)),
             lobby: Mutex::new(Lobby::new(alloc)),
             domain,
             spare: Mutex::new(SpareReaders::new(seats)),
@@ -209,8 +209,8 @@ impl<S: Alter + Drop, J: Naming> Service<S, J> {
     {
         match self.submit_all_at(rt, None, commands) {
             Ok(receipt) => Ok(receipt),
-            Err(NotMade::Refused(reason)) => Err(reason),
-            Err(NotMade::Moved(_)) => unreachable!(),
+            Err(SubmitError::Refused(reason)) => Err(reason),
+            Err(SubmitError::Moved(_)) => unreachable!(),
         }
     }
 
@@ -225,7 +225,7 @@ impl<S: Alter + Drop, J: Naming> Service<S, J> {
         rt: &W,
         expected: Option<u64>,
         commands: &[Command],
-    ) -> Result<Receipt, NotMade>
+    ) -> Result<Receipt, SubmitError>
         requires some { 1 ≤ length commands.now }
         requires storable { All IsStorable commands.now }
         ensures of { IfOk result (λ receipt. (receipt.book ≡ J.book) × (receipt.base ≡ J.base)) }
@@ -249,7 +249,7 @@ impl<S: Alter + Drop, J: Naming> Service<S, J> {
         rt: &W,
         expected: Option<u64>,
         commands: &[Command],
-    ) -> Result<Receipt, NotMade>
+    ) -> Result<Receipt, SubmitError>
         requires some { 1 ≤ length commands.now }
         requires storable { All IsStorable commands.now }
         ensures of { IfOk result (λ receipt. (receipt.book ≡ J.book) × (receipt.base ≡ J.base)) }
@@ -392,8 +392,8 @@ impl<S: Alter + Drop, J: Naming> Service<S, J> {
 }
 
 /// Counts so many commands that were submitted together, or notes why they were refused.
-fn note<S: Alter + Drop, J: Naming>(
-    publisher: &mut QuietPublisher<S, J>,
+fn note<S: Alter + Drop, J: ServiceBrand>(
+    publisher: &mut PublisherWithFollowers<S, J>,
     commands: u64,
     became: &Result<Receipt, Refusal>,
     commit: Commit,
@@ -407,18 +407,18 @@ fn note<S: Alter + Drop, J: Naming>(
 }
 
 /// The same of commands that were to be made at a number.
-fn note_made<S: Alter + Drop, J: Naming>(
-    publisher: &mut QuietPublisher<S, J>,
+fn note_made<S: Alter + Drop, J: ServiceBrand>(
+    publisher: &mut PublisherWithFollowers<S, J>,
     commands: u64,
-    became: &Result<Receipt, NotMade>,
+    became: &Result<Receipt, SubmitError>,
     commit: Commit,
 )
     ensures { publisher.new ≡ publisher.old }
 {
     match became {
         Ok(_) => publisher.count(commands, commit),
-        Err(NotMade::Refused(reason)) => publisher.refuse(*reason),
-        Err(NotMade::Moved(_)) => {}
+        Err(SubmitError::Refused(reason)) => publisher.refuse(*reason),
+        Err(SubmitError::Moved(_)) => {}
     }
 }
 
@@ -428,6 +428,6 @@ fn is_busy(became: &Result<Receipt, Refusal>) -> bool {
 }
 
 /// The same of commands that were to be made at a number.
-fn had_no_room(became: &Result<Receipt, NotMade>) -> bool {
-    matches!(became, Err(NotMade::Refused(Refusal::Busy)))
+fn had_no_room(became: &Result<Receipt, SubmitError>) -> bool {
+    matches!(became, Err(SubmitError::Refused(Refusal::Busy)))
 }

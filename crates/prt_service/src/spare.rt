@@ -1,10 +1,10 @@
 //! Readers that no looker has.
 ghost use Rattle.std.specs.Prelude.{◌≡◌, IfSome, MatchBool};
-ghost use Rattle.prt_front.specs.Line.{Begins};
+ghost use Rattle.prt_published.specs.Line.{Begins};
 ghost use Rattle.prt_version.specs.Accepted.{IsAccepted};
 
-use crate::Naming;
-use prt_front::{FrontReader, Known};
+use crate::ServiceBrand;
+use prt_published::{FrontReader, Known};
 use prt_publisher::Seats;
 use std::marker::{Model, PhantomData};
 
@@ -16,7 +16,7 @@ pub(crate) struct Returned {
 }
 
 impl Model for Returned {
-    ghost use Rattle.prt_front.specs.Line.{Line};
+    ghost use Rattle.prt_published.specs.Line.{Line};
 
     ghost Value = { Line };
 
@@ -35,14 +35,14 @@ impl Returned {
 
 /// Readers of the named front that no looker has.
 #[derive(Drop)]
-pub(crate) struct SpareReaders<J: Naming> {
+pub(crate) struct SpareReaders<J: ServiceBrand> {
     seats: Seats,
     of: PhantomData<J>,
 }
 
-impl<J: Naming> Model for SpareReaders<J> {
+impl<J: ServiceBrand> Model for SpareReaders<J> {
     ghost use Rattle.std.specs.Prelude.{◌≡◌};
-    ghost use Rattle.prt_front.specs.Line.{Line};
+    ghost use Rattle.prt_published.specs.Line.{Line};
 
     ghost Value = { Line };
 
@@ -51,7 +51,7 @@ impl<J: Naming> Model for SpareReaders<J> {
     ghost invariant = { λ s. (s.seats.book ≡ J.book) × (s.seats.base ≡ J.base) };
 }
 
-impl<J: Naming> SpareReaders<J> {
+impl<J: ServiceBrand> SpareReaders<J> {
     pub(crate) fn new(seats: Seats) -> SpareReaders<J>
         requires { (seats.book ≡ J.book) × (seats.base ≡ J.base) }
         ensures { result ≡ seats }

@@ -1,12 +1,12 @@
 //! What became of commands that were submitted together.
 ghost use Rattle.std.specs.Prelude.{◌≡◌, ◌+◌, ◌<◌, Err, IfOk, List, Ok, length, take, ℕ};
 ghost use Rattle.prt_command.specs.declared.request.Command as requests;
-ghost use Rattle.prt_front.specs.Line.{Line, grown_by};
+ghost use Rattle.prt_published.specs.Line.{Line, grown_by};
 ghost use Rattle.prt_refusals.specs.declared.refusal.Refusal as refusals;
 ghost use Rattle.prt_service.specs.Group.{answer_before};
 ghost use Rattle.prt_service.specs.Service.{AreAnswered};
 
-use crate::Naming;
+use crate::ServiceBrand;
 use crate::waiting::Waiting;
 use prt_command::Refusal;
 use prt_publisher::Receipt;
@@ -15,12 +15,12 @@ use std::sync::Wait;
 /// Commands of the named front that were submitted together, whose answers wait to be sent: the receipt of the last, or why
 /// there is none.
 #[derive(Drop)]
-pub(crate) struct Submitted<J: Naming> {
+pub(crate) struct Submitted<J: ServiceBrand> {
     pub(crate) waiting: Vec<Waiting<J>>,
     pub(crate) became: Result<Receipt, Refusal>,
 }
 
-impl<J: Naming> Submitted<J> {
+impl<J: ServiceBrand> Submitted<J> {
     /// Sends the answers.
     pub(crate) fn answer<W: Wait>(self, rt: &W)
         requires { AreAnswered J.book J.base self.waiting.items self.became }

@@ -3,7 +3,7 @@ ghost use Rattle.std.specs.Prelude.{◌≡◌, IfSome};
 ghost use Rattle.prt_command.specs.Storable.{IsStorable};
 ghost use Rattle.prt_service.specs.Service.{IsAnswer};
 
-use crate::Naming;
+use crate::ServiceBrand;
 use crossbeam_channel::Sender;
 use prt_command::{Command, Refusal};
 use prt_publisher::Receipt;
@@ -13,13 +13,13 @@ use std::sync::Wait;
 
 /// What became of a command that was submitted to the named front. Contracts see it as the command.
 #[derive(Drop)]
-pub(crate) struct Answer<J: Naming> {
+pub(crate) struct Answer<J: ServiceBrand> {
     command: Command,
     result: Result<Receipt, Refusal>,
     of: PhantomData<J>,
 }
 
-impl<J: Naming> Model for Answer<J> {
+impl<J: ServiceBrand> Model for Answer<J> {
     ghost use Rattle.prt_command.specs.declared.request.Command as requests;
     ghost use Rattle.prt_service.specs.Service.{IsAnswer};
 
@@ -30,7 +30,7 @@ impl<J: Naming> Model for Answer<J> {
     ghost invariant = { λ answer. IsAnswer J.book J.base answer.command answer.result };
 }
 
-impl<J: Naming> Answer<J> {
+impl<J: ServiceBrand> Answer<J> {
     /// Returns what became of this command. `None` if the answer is to another one.
     pub(crate) fn for_command(self, command: &Command) -> Option<Result<Receipt, Refusal>>
         ensures { IfSome result (IsAnswer J.book J.base command.now) }
@@ -51,12 +51,12 @@ impl<J: Naming> Answer<J> {
 /// A command that waits, and where its answer goes. One that is let go without an answer was not submitted. Contracts see
 /// it as the command.
 #[derive(Drop)]
-pub(crate) struct Waiting<J: Naming> {
+pub(crate) struct Waiting<J: ServiceBrand> {
     command: Command,
     reply_to: Sender<Answer<J>, Global>,
 }
 
-impl<J: Naming> Model for Waiting<J> {
+impl<J: ServiceBrand> Model for Waiting<J> {
     ghost use Rattle.prt_command.specs.Storable.{IsStorable};
     ghost use Rattle.prt_command.specs.declared.request.Command as requests;
 
@@ -67,7 +67,7 @@ impl<J: Naming> Model for Waiting<J> {
     ghost invariant = { λ waiting. IsStorable waiting.command };
 }
 
-impl<J: Naming> Waiting<J> {
+impl<J: ServiceBrand> Waiting<J> {
     pub(crate) fn new(command: &Command, reply_to: Sender<Answer<J>, Global>) -> Waiting<J>
         requires { IsStorable command.now }
         ensures { result ≡ command.now }

@@ -12,8 +12,8 @@ use Rattle.prt_command.specs.declared.request.Command.{Command}
 use Rattle.prt_command.specs.declared.request.Command.TheVariants.{RouteAdd, RouteChange, RouteReplace, RouteDel, RouteFlush, RuleAdd, RuleDel, RuleFlush}
 use Rattle.prt_command.specs.declared.request.NewRule.{NewRule}
 use Rattle.prt_spelling.specs.Plain.{is_plain_name}
-use Rattle.prt_spelling.specs.declared.refusal.NotSpelled.{NotSpelled}
-use Rattle.prt_spelling.specs.declared.refusal.NotSpelled.TheVariants.{NoLine, NoMemory}
+use Rattle.prt_spelling.specs.declared.refusal.SpellingError.{SpellingError}
+use Rattle.prt_spelling.specs.declared.refusal.SpellingError.TheVariants.{NoLine, NoMemory}
 
 -- a table may hold the route, and a line can name its interface
 abbrev pub is_spelled_route : Route → Bool
@@ -69,6 +69,6 @@ is_spelled (RuleDel choice) = is_spelled_rule_choice choice
 is_spelled RuleFlush = true
 
 -- why a command has no line
-abbrev pub IsWhyNotSpelled : Command → NotSpelled → Type 0
+abbrev pub IsWhyNotSpelled : Command → SpellingError → Type 0
 IsWhyNotSpelled command NoLine = is_spelled command ≡ false
 IsWhyNotSpelled command NoMemory = Unit {0}

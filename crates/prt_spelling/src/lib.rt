@@ -12,5 +12,5 @@ mod spelled;
 pub use form::ProtocolForm;
 pub use laws::{lines_are_read, values_read_back, what_is_read_is_spelled};
 pub use line::{command_line, line_by, push_line};
-pub use refusal::NotSpelled;
+pub use refusal::SpellingError;
 pub use spelled::is_spelled;

@@ -13,7 +13,7 @@ use crate::form::ProtocolForm;
 use crate::parts::{
     given_of, given_of_route, global_part, route_choice_parts, rule_choice_parts, selector_parts,
 };
-use crate::refusal::NotSpelled;
+use crate::refusal::SpellingError;
 use crate::spelled::is_spelled;
 use prt_command::Command;
 use prt_listing::{Part, push_part, push_text};
@@ -110,18 +110,22 @@ pub fn push_line(out: &mut Vec<u8>, command: &Command) -> Result<(), AllocError>
 /// `NoLine` if no line asks for it: an interface has a name with `#`, a control byte or a byte above 0x7e; a table may
 /// not hold the route or the rule; or of what is to be deleted or flushed a table or a metric is 0, a length is above 32,
 /// or nothing is given. `NoMemory` if memory is refused.
-pub fn line_by(alloc: Global, form: ProtocolForm, command: &Command) -> Result<Vec<u8>, NotSpelled>
+pub fn line_by(
+    alloc: Global,
+    form: ProtocolForm,
+    command: &Command,
+) -> Result<Vec<u8>, SpellingError>
     ensures text { IfOk result (λ line. line.items ≡ line_by form command.now) }
     ensures read { IfOk result (λ line. reading line.items ≡ Ok (Some (requests.Command command.now))) }
     ensures reason { IfErr result (λ reason. IsWhyNotSpelled command.now reason) }
 {
     if !is_spelled(command) {
-        return Err(NotSpelled::NoLine);
+        return Err(SpellingError::NoLine);
     }
     recall_command(command);
     let mut line = Vec::new(alloc);
     let Ok(()) = push_line_by(&mut line, form, command) else {
-        return Err(NotSpelled::NoMemory);
+        return Err(SpellingError::NoMemory);
     };
     Ok(line)
 }
@@ -131,7 +135,7 @@ pub fn line_by(alloc: Global, form: ProtocolForm, command: &Command) -> Result<V
 /// # Errors
 ///
 /// Those of [`line_by`].
-pub fn command_line(alloc: Global, command: &Command) -> Result<Vec<u8>, NotSpelled>
+pub fn command_line(alloc: Global, command: &Command) -> Result<Vec<u8>, SpellingError>
     ensures text { IfOk result (λ line. line.items ≡ command_line command.now) }
     ensures read { IfOk result (λ line. reading line.items ≡ Ok (Some (requests.Command command.now))) }
     ensures reason { IfErr result (λ reason. IsWhyNotSpelled command.now reason) }

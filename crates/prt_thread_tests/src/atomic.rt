@@ -8,7 +8,7 @@ use prt_command::Refusal;
 use prt_grace::Domain;
 use prt_publisher::Publisher;
 use prt_serve::{OpenGate, serve_atomic};
-use prt_service::{Looker, Naming, Service};
+use prt_service::{Looker, Service, ServiceBrand};
 use sqlite::{Alter, Connection};
 use std::alloc::Global;
 use std::marker::Brand;
@@ -18,7 +18,7 @@ use std::test::Fail;
 use std::time::Clock;
 
 /// Serves a file, and returns what its client reads.
-fn replies<S: Alter + Drop, J: Naming, H: Wait + Clock>(
+fn replies<S: Alter + Drop, J: ServiceBrand, H: Wait + Clock>(
     rt: &H,
     alloc: Global,
     service: &Service<S, J>,
@@ -38,7 +38,7 @@ fn replies<S: Alter + Drop, J: Naming, H: Wait + Clock>(
 
 /// Serves files, one after another, over a service of the named front. Returns what their clients read, and the number of
 /// the published version after them.
-fn serve<J: Naming, S: Alter + Drop, H: Wait + Clock + Copy + Drop>(
+fn serve<J: ServiceBrand, S: Alter + Drop, H: Wait + Clock + Copy + Drop>(
     rt: H,
     alloc: Global,
     publisher: Publisher<S>,

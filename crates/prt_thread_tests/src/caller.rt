@@ -8,7 +8,7 @@ use prt_addr::addr_text;
 use prt_command::{Addr, Command, Dev, Packet, Refusal, Request, read_line};
 use prt_grace::Domain;
 use prt_publisher::{Phase, Publisher};
-use prt_service::{Naming, Service};
+use prt_service::{Service, ServiceBrand};
 use sqlite::{Alter, Connection};
 use std::alloc::Global;
 use std::sync::Wait;
@@ -32,7 +32,7 @@ pub fn adopted<S: Alter + Drop>(
 /// # Errors
 ///
 /// `NoMemory`.
-pub fn service_over<J: Naming, S: Alter + Drop, H: Wait>(
+pub fn service_over<J: ServiceBrand, S: Alter + Drop, H: Wait>(
     rt: &H,
     mut publisher: Publisher<S>,
     domain: Domain,
@@ -116,7 +116,7 @@ pub fn prepare_one<S: Alter + Drop, H: Wait>(
 }
 
 /// Submits a flush of the rules to a service, which is always accepted, and returns the number of its receipt.
-pub fn submit_to_service<S: Alter + Drop, J: Naming, H: Wait + Clock>(
+pub fn submit_to_service<S: Alter + Drop, J: ServiceBrand, H: Wait + Clock>(
     rt: &H,
     service: &Service<S, J>,
 ) -> Result<u64, Refusal> {

@@ -8,7 +8,7 @@ use prt_command::Refusal;
 use prt_grace::Domain;
 use prt_publisher::Publisher;
 use prt_serve::{Accepting, Entrance, Kind, Limits, OpenGate, Turnstile, accept, serve_all};
-use prt_service::{Naming, Service};
+use prt_service::{Service, ServiceBrand};
 use sqlite::{Alter, Connection};
 use std::alloc::{AllocError, Global};
 use std::io::{self, ErrorKind, Read, Write};
@@ -155,7 +155,11 @@ fn nobody_takes_a_connection(rt: HostRuntime) -> Result<(), Fail> {
 }
 
 /// Serves, by one worker, over a service all of whose lookers are taken.
-fn serve_without_looker<H: Threads + Wait + Clock + Sync, S: Alter + Drop + Send, J: Naming + Send>(
+fn serve_without_looker<
+    H: Threads + Wait + Clock + Sync,
+    S: Alter + Drop + Send,
+    J: ServiceBrand + Send,
+>(
     rt: &H,
     alloc: Global,
     publisher: Publisher<S>,

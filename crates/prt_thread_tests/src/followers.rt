@@ -7,7 +7,7 @@ use crate::slow_looker::{Crowd, gather};
 use prt_command::{Command, Refusal};
 use prt_grace::Domain;
 use prt_publisher::Publisher;
-use prt_service::{Follower, Naming, News, Service};
+use prt_service::{Follower, News, Service, ServiceBrand};
 use sqlite::{Alter, Connection};
 use std::alloc::Global;
 use std::marker::Brand;
@@ -29,7 +29,7 @@ enum Heard {
 }
 
 /// Returns what a follower hears.
-fn hear<H: Wait + Clock, J: Naming>(rt: &H, follower: &mut Follower<J>) -> Heard {
+fn hear<H: Wait + Clock, J: ServiceBrand>(rt: &H, follower: &mut Follower<J>) -> Heard {
     match follower.next_within(rt, Duration::from_millis(PATIENCE)) {
         News::Command {
             command: Command::RuleFlush,
@@ -55,7 +55,7 @@ struct Beside {
 }
 
 /// Runs a service of the named front, with two followers from the start, and one beside a looker.
-fn serve<J: Naming, S: Alter + Drop, H: Wait + Clock + Copy + Drop>(
+fn serve<J: ServiceBrand, S: Alter + Drop, H: Wait + Clock + Copy + Drop>(
     rt: H,
     publisher: Publisher<S>,
     domain: Domain,
@@ -120,7 +120,7 @@ fn followers_take_no_looker(rt: HostRuntime) -> Result<(), Fail> {
 
 /// Runs a service of the named front, with a follower that hears nothing. Returns how many followers there are once so many
 /// commands wait for it, and after one more.
-fn fall_behind<J: Naming, S: Alter + Drop, H: Wait + Clock + Copy + Drop>(
+fn fall_behind<J: ServiceBrand, S: Alter + Drop, H: Wait + Clock + Copy + Drop>(
     rt: H,
     publisher: Publisher<S>,
     domain: Domain,

@@ -4,7 +4,7 @@ ghost use Rattle.prt_command.specs.Storable.{IsStorable};
 ghost use Rattle.prt_version.specs.Change.{apply, refusal};
 
 use prt_command::{Command, Refusal};
-use prt_front::Front;
+use prt_published::Front;
 use prt_store::{Stamp, Store};
 use prt_version::Version;
 use prt_version::owners::first_owner;

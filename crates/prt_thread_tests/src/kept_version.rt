@@ -7,7 +7,7 @@ use crate::slow_looker::{Submitted, add_hosts};
 use prt_command::Refusal;
 use prt_grace::Domain;
 use prt_publisher::Publisher;
-use prt_service::{Naming, Service};
+use prt_service::{Service, ServiceBrand};
 use sqlite::{Alter, Connection};
 use std::alloc::Global;
 use std::marker::Brand;
@@ -28,7 +28,7 @@ struct Kept {
 }
 
 /// Runs a service of the named front: a looker keeps the opening version beside twice as many commands as may be held up.
-fn serve<J: Naming, S: Alter + Drop, H: Wait + Clock + Copy + Drop>(
+fn serve<J: ServiceBrand, S: Alter + Drop, H: Wait + Clock + Copy + Drop>(
     rt: H,
     alloc: Global,
     publisher: Publisher<S>,

@@ -6,7 +6,7 @@ use crate::caller::{adopted, packet, service_over, submit_to_service};
 use prt_command::{Addr, Refusal, Request, read_line};
 use prt_grace::Domain;
 use prt_publisher::Publisher;
-use prt_service::{Naming, Service};
+use prt_service::{Service, ServiceBrand};
 use prt_version::{Answer, Verdict};
 use sqlite::{Alter, Connection};
 use std::alloc::Global;
@@ -33,7 +33,7 @@ fn next_hop(verdict: &Verdict) -> Option<Addr> {
 
 /// Runs a service of the named front: a looker learns the receipt of a route, refreshes and looks; then the rules are
 /// flushed, and it looks, refreshes and looks.
-fn serve<J: Naming, S: Alter + Drop, H: Wait + Clock + Copy + Drop>(
+fn serve<J: ServiceBrand, S: Alter + Drop, H: Wait + Clock + Copy + Drop>(
     rt: H,
     publisher: Publisher<S>,
     domain: Domain,

@@ -7,7 +7,7 @@ use prt_command::Refusal;
 use prt_grace::Domain;
 use prt_publisher::Publisher;
 use prt_serve::{Accepting, Entrance, Kind, Limits, OpenGate, serve_all};
-use prt_service::{Naming, Service};
+use prt_service::{Service, ServiceBrand};
 use sqlite::{Alter, Connection};
 use std::alloc::Global;
 use std::io::{self, ErrorKind, Read, Write};
@@ -26,7 +26,7 @@ use std::time::Clock;
 fn converse<
     H: Net<Listener = TcpListener, Stream = TcpStream> + Threads + Wait + Clock + Sync,
     S: Alter + Drop + Send,
-    J: Naming + Send,
+    J: ServiceBrand + Send,
 >(rt: &H, alloc: Global, service: &Service<S, J>, lines: &[u8]) -> io::Result<(Vec<u8>, bool)> {
     let listener = TcpListener::bind(rt, SocketAddr::from((Ipv4Addr::LOCALHOST, 0)))?;
     let mut client = TcpStream::connect(rt, listener.local_addr()?)?;
@@ -53,7 +53,7 @@ fn converse<
 fn converse_with<
     H: Net<Listener = TcpListener, Stream = TcpStream> + Threads + Wait + Clock + Sync,
     S: Alter + Drop + Send,
-    J: Naming + Send,
+    J: ServiceBrand + Send,
 >(
     rt: &H,
     alloc: Global,

@@ -8,7 +8,7 @@ use prt_command::Refusal;
 use prt_grace::Domain;
 use prt_publisher::Publisher;
 use prt_serve::{Gate, Job, Kind, Served, work};
-use prt_service::{Naming, Service};
+use prt_service::{Service, ServiceBrand};
 use prt_session::Reply;
 use sqlite::{Alter, Connection};
 use std::alloc::Global;
@@ -118,7 +118,7 @@ fn hand_over<H: Wait + Copy + Drop>(
 fn let_go<R: Read + Drop, W: Write + Drop>(_served: Served<R, W>) {}
 
 /// Serves jobs until the channel is closed. Returns why no looker was had, if none was.
-fn serve_jobs<H: Wait + Clock + Copy + Drop, S: Alter + Drop, J: Naming>(
+fn serve_jobs<H: Wait + Clock + Copy + Drop, S: Alter + Drop, J: ServiceBrand>(
     rt: &H,
     alloc: Global,
     service: &Service<S, J>,
@@ -135,7 +135,7 @@ fn serve_jobs<H: Wait + Clock + Copy + Drop, S: Alter + Drop, J: Naming>(
 fn meet<
     H: Threads + Wait + Clock + Copy + Drop + Send + Sync + 'static,
     S: Alter + Drop + Send,
-    J: Naming + Send,
+    J: ServiceBrand + Send,
 >(
     rt: &H,
     alloc: Global,

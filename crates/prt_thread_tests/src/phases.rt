@@ -6,7 +6,7 @@ use crate::caller::{
     adopted, host_route, prepare_one, stored_number, submit_to_publisher, submit_two_together,
 };
 use prt_command::{Command, Refusal};
-use prt_front::READERS;
+use prt_published::READERS;
 use prt_publisher::{ChangeSet, Phase};
 use sqlite::{Alter, Connection};
 use std::alloc::Global;

@@ -7,7 +7,7 @@ use prt_command::Refusal;
 use prt_grace::Domain;
 use prt_publisher::Publisher;
 use prt_serve::{Gate, Kind, ends_over, serve_session};
-use prt_service::{Naming, Service};
+use prt_service::{Service, ServiceBrand};
 use prt_session::Reply;
 use sqlite::{Alter, Connection};
 use std::alloc::Global;
@@ -29,7 +29,7 @@ struct Seen {
 
 impl Seen {
     /// Notes whether a looker of the service is online.
-    fn note<H: Wait, S: Alter + Drop, J: Naming>(&self, rt: &H, service: &Service<S, J>) {
+    fn note<H: Wait, S: Alter + Drop, J: ServiceBrand>(&self, rt: &H, service: &Service<S, J>) {
         if service.retention(rt).lowest.is_some() {
             self.held.store(true, Ordering::SeqCst);
         }
@@ -38,14 +38,14 @@ impl Seen {
 
 /// An end of a connection. Each read returns a block of lines; the end to write to is never read.
 #[derive(Drop)]
-struct End<'a, 'b, H: Wait, S: Alter + Drop, J: Naming> {
+struct End<'a, 'b, H: Wait, S: Alter + Drop, J: ServiceBrand> {
     rt: &'a H,
     service: &'a Service<S, J>,
     seen: &'a Seen,
     blocks: &'b [Vec<u8>],
 }
 
-impl<'a, 'b, H: Wait, S: Alter + Drop, J: Naming> Read for End<'a, 'b, H, S, J> {
+impl<'a, 'b, H: Wait, S: Alter + Drop, J: ServiceBrand> Read for End<'a, 'b, H, S, J> {
     fn read(&mut self, bytes: &mut [u8]) -> io::Result<usize> {
         self.seen.note(self.rt, self.service);
         let blocks = self.blocks;
@@ -59,7 +59,7 @@ impl<'a, 'b, H: Wait, S: Alter + Drop, J: Naming> Read for End<'a, 'b, H, S, J> 
     }
 }
 
-impl<'a, 'b, H: Wait, S: Alter + Drop, J: Naming> Write for End<'a, 'b, H, S, J> {
+impl<'a, 'b, H: Wait, S: Alter + Drop, J: ServiceBrand> Write for End<'a, 'b, H, S, J> {
     fn write(&mut self, bytes: &[u8]) -> io::Result<usize> {
         self.seen.note(self.rt, self.service);
         self.seen.replies.lock(self.rt).extend_from_slice(bytes)?;
@@ -73,13 +73,13 @@ impl<'a, 'b, H: Wait, S: Alter + Drop, J: Naming> Write for End<'a, 'b, H, S, J>
 
 /// Another client, which has a command made before each sixteenth line.
 #[derive(Drop)]
-struct Neighbour<'a, H: Wait + Clock, S: Alter + Drop, J: Naming> {
+struct Neighbour<'a, H: Wait + Clock, S: Alter + Drop, J: ServiceBrand> {
     rt: &'a H,
     service: &'a Service<S, J>,
     seen: &'a Seen,
 }
 
-impl<'a, H: Wait + Clock, S: Alter + Drop, J: Naming> Gate for Neighbour<'a, H, S, J> {
+impl<'a, H: Wait + Clock, S: Alter + Drop, J: ServiceBrand> Gate for Neighbour<'a, H, S, J> {
     fn before(&self, _session: u64, line: u64) {
         if line % 16 == 1 {
             let _made = submit_to_service(self.rt, self.service).is_ok();
@@ -95,7 +95,7 @@ impl<'a, H: Wait + Clock, S: Alter + Drop, J: Naming> Gate for Neighbour<'a, H, 
 
 /// Serves a session of these blocks over a service of the named front, beside the other client. Returns the replies, and
 /// whether a version was held while the client might have been waited for.
-fn serve<J: Naming, S: Alter + Drop, H: Wait + Clock + Copy + Drop>(
+fn serve<J: ServiceBrand, S: Alter + Drop, H: Wait + Clock + Copy + Drop>(
     rt: H,
     alloc: Global,
     publisher: Publisher<S>,

@@ -6,7 +6,7 @@ use crate::caller::{adopted, host_route, packet, service_over, stored_number};
 use prt_command::Refusal;
 use prt_grace::Domain;
 use prt_publisher::Publisher;
-use prt_service::{Naming, Service};
+use prt_service::{Service, ServiceBrand};
 use sqlite::{Alter, Connection};
 use std::alloc::Global;
 use std::marker::Brand;
@@ -48,7 +48,7 @@ struct Beside {
 }
 
 /// Adds the routes of the hosts from one to another, until one is refused.
-pub(crate) fn add_hosts<S: Alter + Drop, J: Naming, H: Wait + Clock>(
+pub(crate) fn add_hosts<S: Alter + Drop, J: ServiceBrand, H: Wait + Clock>(
     rt: &H,
     alloc: Global,
     service: &Service<S, J>,
@@ -80,7 +80,7 @@ fn time<H: Clock>(rt: &H) -> Duration {
 }
 
 /// Makes lookers until one is refused, or so many are there. Then all of them leave.
-pub(crate) fn gather<S: Alter + Drop, J: Naming, H: Wait>(
+pub(crate) fn gather<S: Alter + Drop, J: ServiceBrand, H: Wait>(
     rt: &H,
     service: &Service<S, J>,
     most: u64,
@@ -109,7 +109,7 @@ pub(crate) fn gather<S: Alter + Drop, J: Naming, H: Wait>(
 
 /// Adds hosts beside a looker that refreshes at first, and then when one was refused; rests it, and adds as many as it held
 /// up, and one more.
-fn submit_beside<S: Alter + Drop, J: Naming, H: Wait + Clock>(
+fn submit_beside<S: Alter + Drop, J: ServiceBrand, H: Wait + Clock>(
     rt: &H,
     alloc: Global,
     service: &Service<S, J>,
@@ -152,7 +152,7 @@ struct Outcome {
 }
 
 /// Runs a service of the named front.
-fn serve<J: Naming, S: Alter + Drop, H: Wait + Clock + Copy + Drop>(
+fn serve<J: ServiceBrand, S: Alter + Drop, H: Wait + Clock + Copy + Drop>(
     rt: H,
     alloc: Global,
     publisher: Publisher<S>,

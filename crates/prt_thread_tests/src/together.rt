@@ -6,7 +6,7 @@ use crate::caller::{adopted, packet, service_over};
 use prt_command::{Refusal, Request, read_line};
 use prt_grace::Domain;
 use prt_publisher::Publisher;
-use prt_service::{Looker, Naming, Service};
+use prt_service::{Looker, Service, ServiceBrand};
 use prt_version::Verdict;
 use sqlite::{Alter, Connection};
 use std::alloc::Global;
@@ -19,7 +19,7 @@ use std::time::Clock;
 type Seen = (u64, usize, bool);
 
 /// Returns what a looker sees, which takes the published version first.
-fn seen<S: Alter + Drop, J: Naming, H: Wait>(
+fn seen<S: Alter + Drop, J: ServiceBrand, H: Wait>(
     rt: &H,
     service: &Service<S, J>,
     looker: &mut Looker,
@@ -32,7 +32,7 @@ fn seen<S: Alter + Drop, J: Naming, H: Wait>(
 
 /// Runs a service of the named front. Returns the number of the receipt of two commands, and what a looker sees before
 /// them and after.
-fn serve<J: Naming, S: Alter + Drop, H: Wait + Clock + Copy + Drop>(
+fn serve<J: ServiceBrand, S: Alter + Drop, H: Wait + Clock + Copy + Drop>(
     rt: H,
     alloc: Global,
     publisher: Publisher<S>,

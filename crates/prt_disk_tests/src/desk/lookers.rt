@@ -11,7 +11,7 @@ use prt_command::{Addr, Command, Dev, Packet, Refusal, Request, read_line};
 use prt_grace::Domain;
 use prt_listing::answer_text;
 use prt_publisher::{Phase, Publisher};
-use prt_service::{Naming, Service};
+use prt_service::{Service, ServiceBrand};
 use sqlite::{Alter, Connection, FileStore, Files};
 use sqlite_disk::Disk;
 use std::alloc::Global;
@@ -79,7 +79,7 @@ fn adopted<S: Alter + Drop>(
 }
 
 /// Submits a command, and returns why it was refused, if it was.
-fn refusal_of<S: Alter + Drop, J: Naming, H: Wait + Clock>(
+fn refusal_of<S: Alter + Drop, J: ServiceBrand, H: Wait + Clock>(
     rt: &H,
     service: &Service<S, J>,
     command: &Command,
@@ -93,7 +93,7 @@ fn refusal_of<S: Alter + Drop, J: Naming, H: Wait + Clock>(
 }
 
 /// Submits the five commands until one is refused. Returns how many were acknowledged, and why that one was refused.
-fn submit_until_refused<S: Alter + Drop, J: Naming, H: Wait + Clock>(
+fn submit_until_refused<S: Alter + Drop, J: ServiceBrand, H: Wait + Clock>(
     rt: &H,
     service: &Service<S, J>,
 ) -> Result<(usize, Option<Refusal>), Refusal> {
@@ -109,7 +109,7 @@ fn submit_until_refused<S: Alter + Drop, J: Naming, H: Wait + Clock>(
 
 /// Submits the five commands beside a looker, and a further one if one of them is refused. Then the looker refreshes and
 /// looks.
-fn look_beside<S: Alter + Drop, J: Naming, H: Wait + Clock>(
+fn look_beside<S: Alter + Drop, J: ServiceBrand, H: Wait + Clock>(
     rt: &H,
     alloc: Global,
     service: &Service<S, J>,
@@ -140,7 +140,7 @@ fn look_beside<S: Alter + Drop, J: Naming, H: Wait + Clock>(
 }
 
 /// Looks beside a service of the named front.
-fn serve<J: Naming, S: Alter + Drop, H: Wait + Clock + Copy + Drop>(
+fn serve<J: ServiceBrand, S: Alter + Drop, H: Wait + Clock + Copy + Drop>(
     rt: H,
     alloc: Global,
     mut publisher: Publisher<S>,

@@ -1,6 +1,6 @@
 use prt_command::{Command, Refusal, Request, read_line};
 use prt_diff::{
-    Changes, Fence, Held, NotWritten, changes, changes_text, commands_text, count_outside,
+    Changes, Fence, Held, LineError, changes, changes_text, commands_text, count_outside,
     left_out_of_replacing, replacing_text,
 };
 use prt_route::{BOOT_PROTOCOL, Kind, LINK_SCOPE, MAIN_TABLE, Prefix, Route, RouteKey, read_dev};
@@ -89,8 +89,8 @@ fn text_of(
 ) -> Result<Vec<u8>, Fail> {
     match changes_text(alloc, fence, found, wanted) {
         Ok(text) => Ok(text),
-        Err(NotWritten::NoLine(_)) => Err(Fail::from(Refusal::UnknownVerb)),
-        Err(NotWritten::NoMemory) => Err(Fail::from(Refusal::NoMemory)),
+        Err(LineError::NoLine(_)) => Err(Fail::from(Refusal::UnknownVerb)),
+        Err(LineError::NoMemory) => Err(Fail::from(Refusal::NoMemory)),
     }
 }
 
@@ -375,7 +375,7 @@ fn route_through(name: &[u8]) -> Result<Route, Refusal> {
 fn names_what_no_line_spells(rt: HostRuntime) -> Result<(), Fail> {
     let command = Command::RouteAdd(route_through(b"a#b")?);
     let text = commands_text(rt.alloc(), &[command]);
-    assert!(rt; matches!(text, Err(NotWritten::NoLine(Command::RouteAdd(_)))));
+    assert!(rt; matches!(text, Err(LineError::NoLine(Command::RouteAdd(_)))));
     Ok(())
 }
 

@@ -1,5 +1,5 @@
 use prt_command::{Refusal, Request, read_line};
-use prt_feed::{NotRead, Opening, change_line, opening_text, read_opening};
+use prt_feed::{Opening, OpeningError, change_line, opening_text, read_opening};
 use prt_version::Version;
 use std::alloc::Global;
 use std::test::Fail;
@@ -52,7 +52,7 @@ fn change_of(alloc: Global, number: u64, line: &str) -> Result<Option<Vec<u8>>, 
 }
 
 /// Returns why this text has no opening.
-fn reason_of(alloc: Global, text: &str) -> Option<NotRead> {
+fn reason_of(alloc: Global, text: &str) -> Option<OpeningError> {
     let mut bytes = text.as_bytes();
     match read_opening(alloc, &mut bytes) {
         Ok(_) => None,
@@ -103,13 +103,19 @@ fn tells_why_nothing_was_read(rt: HostRuntime) -> Result<(), Fail> {
     let alloc = rt.alloc();
     assert_eq!(rt;
         reason_of(alloc, "state 7\nrule flush\n"),
-        Some(NotRead::CutOff)
+        Some(OpeningError::CutOff)
     );
-    assert_eq!(rt; reason_of(alloc, "error 23 Full\n"), Some(NotRead::NoFeed));
-    assert_eq!(rt; reason_of(alloc, "state 07\nnow\n"), Some(NotRead::NoFeed));
+    assert_eq!(rt;
+        reason_of(alloc, "error 23 Full\n"),
+        Some(OpeningError::NoFeed)
+    );
+    assert_eq!(rt;
+        reason_of(alloc, "state 07\nnow\n"),
+        Some(OpeningError::NoFeed)
+    );
     assert_eq!(rt;
         reason_of(alloc, "state 7\nroute add 10/8\nnow\n"),
-        Some(NotRead::Refused(Refusal::NoNextHop))
+        Some(OpeningError::Refused(Refusal::NoNextHop))
     );
     Ok(())
 }

@@ -1,5 +1,5 @@
 //! What is reported of lines: each thing that `ip` prints and no line here can say.
-use prt_import::{HostNames, Left, accept, import};
+use prt_import::{HostNames, OmittedLine, accept, import};
 use std::alloc::Global;
 use std::test::Fail;
 
@@ -130,7 +130,7 @@ const NOTES: [(u64, &str); 19] = [
 ];
 
 /// Formats a line for each of these.
-fn shown(alloc: Global, left: &[Left]) -> Result<String, Fail> {
+fn shown(alloc: Global, left: &[OmittedLine]) -> Result<String, Fail> {
     let mut text = String::new(alloc);
     for one in left {
         writeln!(text, "{one}")?;

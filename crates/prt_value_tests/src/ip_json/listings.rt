@@ -1,5 +1,5 @@
 //! What `ip -j` of iproute2 6.1 printed in a network namespace, and what `ip` printed there without `-j`.
-use prt_ip_json::{NotListed, is_json, listing_of};
+use prt_ip_json::{ListingError, is_json, listing_of};
 use std::test::Fail;
 
 /// What `ip -j -4 rule` printed.
@@ -191,9 +191,9 @@ fn keeps_what_it_does_not_know(rt: HostRuntime) -> Result<(), Fail> {
 #[test]
 fn refuses_what_is_no_json(rt: HostRuntime) {
     let alloc = rt.alloc();
-    assert!(rt; matches!(listing_of(alloc, b"[{]"), Err(NotListed::NoJson)));
-    assert!(rt; matches!(listing_of(alloc, b"[] ]"), Err(NotListed::NoJson)));
-    assert!(rt; matches!(listing_of(alloc, b"[\"\xff\"]"), Err(NotListed::NoJson)));
+    assert!(rt; matches!(listing_of(alloc, b"[{]"), Err(ListingError::NoJson)));
+    assert!(rt; matches!(listing_of(alloc, b"[] ]"), Err(ListingError::NoJson)));
+    assert!(rt; matches!(listing_of(alloc, b"[\"\xff\"]"), Err(ListingError::NoJson)));
 }
 
 #[test]

@@ -1,7 +1,7 @@
 use prt_command::{Command, Refusal, Request, read_line};
 use prt_route::{Addr, Dev, Kind, Prefix, Range, RouteChoice, Selector, read_dev};
 use prt_rule::RuleChoice;
-use prt_spelling::{NotSpelled, ProtocolForm, command_line, line_by};
+use prt_spelling::{ProtocolForm, SpellingError, command_line, line_by};
 use std::alloc::Global;
 use std::test::Fail;
 
@@ -102,7 +102,7 @@ fn spelled(alloc: Global, form: ProtocolForm, lines: &str) -> Result<Vec<u8>, Fa
 
 /// Checks whether no line asks for the command.
 fn has_no_line(alloc: Global, command: &Command) -> bool {
-    matches!(command_line(alloc, command), Err(NotSpelled::NoLine))
+    matches!(command_line(alloc, command), Err(SpellingError::NoLine))
 }
 
 /// Chooses rules by this interface alone, if there is one.

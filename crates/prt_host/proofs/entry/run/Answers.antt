@@ -4,13 +4,13 @@ use Rattle.prt_host.specs.Runs.{answers, serves, submits}
 use Rattle.prt_program.specs.Faults.{database_of}
 use Rattle.prt_program.specs.Program.{LeavesInput}
 use Rattle.prt_questions.specs.Sources.{path_of, sources_of}
-use Rattle.prt_words.specs.Invocation.{arguments, invocation}
+use Rattle.prt_args.specs.Invocation.{arguments, invocation}
 use Rattle.prt_host.proofs.entry.run.Goals as goal
 
 pub returns-in-Exit : goal.returns-in-Exit
 returns-in-Exit g c =
     let asked = invocation (arguments c.args.words.now) in
-    exit_alone g.S.Store g.M.Machine.opens g.M.Machine.closes c.args.databases.now c.program-next.new.databases (λ d. d.machine) g.M.Machine.refuses (g.F.ReadFiles.opens c.args.databases.now.files.now) g.F.Opened.Read.remaining _ asked _ c.in-Exit.status c.in-Exit.ensures.run c.in-Exit.ensures.unopened
+    exit_alone g.S.Store g.M.DatabaseOpener.opens g.M.DatabaseOpener.closes c.args.databases.now c.program-next.new.databases (λ d. d.machine) g.M.DatabaseOpener.refuses (g.F.ReadFiles.opens c.args.databases.now.files.now) g.F.Opened.Read.remaining _ asked _ c.in-Exit.status c.in-Exit.ensures.run c.in-Exit.ensures.unopened
 
 pub returns-in-Serve : goal.returns-in-Serve
 returns-in-Serve g c =
@@ -19,7 +19,7 @@ returns-in-Serve g c =
     let mid = c.program-next.new.databases.machine in
     let same : mid ≡ old = same_at c.args.databases.now c.program-next.new.databases (λ d. d.machine) (said.unopened (ap database_of said.serve.0)) in
     let words = arguments c.args.words.now in
-    let ended = has_served g.S.Store g.M.Machine.opens g.M.Machine.refuses g.M.Machine.closes mid old c.serve.new.databases.machine same words c.in-Serve.serving c.serve.result said.serve.2 said.serve.1 c.serve.ensures.done c.serve.ensures.fault c.serve.ensures.why in
+    let ended = has_served g.S.Store g.M.DatabaseOpener.opens g.M.DatabaseOpener.refuses g.M.DatabaseOpener.closes mid old c.serve.new.databases.machine same words c.in-Serve.serving c.serve.result said.serve.2 said.serve.1 c.serve.ensures.done c.serve.ensures.fault c.serve.ensures.why in
     serves words said.serve.0 ended
 
 pub returns-in-Submit : goal.returns-in-Submit
@@ -54,7 +54,7 @@ returns-in-Ask g c =
     let unread : remaining c.program-next.new.input.stream ≡ remaining c.args.input.now.stream =
     subst (λ asked. LeavesInput asked (remaining c.args.input.now.stream) (remaining c.program-next.new.input.stream)) said.ask.0 said.unread in
     answers words said.ask.0
-    (has_answered g.S.Store g.M.Machine.opens g.M.Machine.refuses g.M.Machine.closes mid old new same words _ writer_mid writer0 writer said.ask.2 asked.result
-    (asks_from g.S.Store g.M.Machine.opens g.M.Machine.refuses g.M.Machine.closes mid new words c.args.databases.now c.program-next.new.databases all (remaining c.args.input.now.stream) (remaining c.program-next.new.input.stream) unread
+    (has_answered g.S.Store g.M.DatabaseOpener.opens g.M.DatabaseOpener.refuses g.M.DatabaseOpener.closes mid old new same words _ writer_mid writer0 writer said.ask.2 asked.result
+    (asks_from g.S.Store g.M.DatabaseOpener.opens g.M.DatabaseOpener.refuses g.M.DatabaseOpener.closes mid new words c.args.databases.now c.program-next.new.databases all (remaining c.args.input.now.stream) (remaining c.program-next.new.input.stream) unread
     (λ databases input. sources_of g.F.ReadFiles.opens g.F.Opened.Read.remaining databases.files.now g.N.LocalNet.reaches g.N.Stream.Read.remaining databases.rt input) writer_mid writer asked.result
     (record { question = c.in-Ask.asked; named = said.ask.1; status_is = asked.ensures.status; whole = asked.ensures.whole; found = asked.ensures.found; at_most = asked.ensures.at_most })))

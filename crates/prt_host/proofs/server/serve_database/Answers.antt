@@ -2,7 +2,7 @@ use Rattle.std.proofs.Common.{inr, Option, refl, subst}
 use Rattle.std.specs.Prelude.{IfSome}
 use Rattle.prt_host.proofs.Served.{has_served}
 use Rattle.prt_host.specs.Serving.{IsFaultOfServing}
-use Rattle.prt_host.specs.declared.server.NotServed.{NotServed}
+use Rattle.prt_host.specs.declared.server.ServeError.{ServeError}
 use Rattle.prt_host.proofs.server.serve_database.Goals as goal
 
 pub returns-in-None-clause-ok : goal.returns-in-None-clause-ok
@@ -31,5 +31,5 @@ returns-in-Some-clause-err g c =
         made = has_served g.S.Store _ _ _ made left.0 left.1;
         is_closed = c.close.ensures;
       },
-      subst (λ (f : Option NotServed). IfSome f (λ failure. IsFaultOfServing failure.fault)) c.in-Some.is c.serve_over-failure.ensures.fault,
+      subst (λ (f : Option ServeError). IfSome f (λ failure. IsFaultOfServing failure.fault)) c.in-Some.is c.serve_over-failure.ensures.fault,
     )

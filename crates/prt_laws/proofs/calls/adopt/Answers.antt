@@ -1,5 +1,5 @@
 use Rattle.sqlite.specs.Held.{state}
-use Rattle.prt_front.specs.Line.{line_state}
+use Rattle.prt_published.specs.Line.{line_state}
 use Rattle.prt_laws.proofs.Opening.{fresh_is, opened_again, started, stopped_there}
 use Rattle.prt_laws.proofs.calls.adopt.Goals as goal
 

@@ -1,6 +1,6 @@
 use Rattle.std.proofs.Common.{ap, sym, subst}
 use Rattle.sqlite.specs.Held.{Held}
-use Rattle.prt_front.specs.Line.{Line}
+use Rattle.prt_published.specs.Line.{Line}
 use Rattle.prt_publisher.specs.Standing.{Standing}
 use Rattle.prt_laws.specs.Laws.{Notes}
 use Rattle.prt_laws.proofs.Exits.{noted}

@@ -1,5 +1,5 @@
 use Rattle.std.proofs.Common.{inr, rules}
-use Rattle.prt_words.specs.Invocation.{invocation, arguments}
+use Rattle.prt_args.specs.Invocation.{invocation, arguments}
 use Rattle.prt_program.proofs.Reports.{reported}
 use Rattle.prt_program.proofs.prt.program.Goals as goal
 

@@ -1,5 +1,5 @@
 use Rattle.std.proofs.Common.{refl}
-use Rattle.prt_words.specs.Invocation.{invocation, arguments}
+use Rattle.prt_args.specs.Invocation.{invocation, arguments}
 use Rattle.prt_program.proofs.Reports.{at_fault, unread, untouched}
 use Rattle.prt_program.specs.Faults.{database_of}
 use Rattle.prt_program.proofs.prt.run_words.Goals as goal

@@ -12,7 +12,7 @@ returns-clause-whole g c = λ done.
       between = c.open_publisher-opened.new.machine;
       first = opened.was;
       last = c.end-last.result;
-      is_opened = subst (λ wanted. g.M.Machine.opens wanted c.args.databases.now.machine c.open_publisher-opened.new.machine c.args.path.now opened.was) c.wanted_by.ensures opened.found;
+      is_opened = subst (λ wanted. g.M.DatabaseOpener.opens wanted c.args.databases.now.machine c.open_publisher-opened.new.machine c.args.path.now opened.was) c.wanted_by.ensures opened.found;
       made = (c.in-Ok.made.0, over_found g.S.Store _ _ opened, (left, makes_tables c.args.manner.is_dry_run c.args.wanted.now left made.dry (made.made done) (made.together done)), made.whole done);
       is_closed = c.close_at.ensures;
     }
@@ -26,7 +26,7 @@ returns-clause-at_most g c =
       between = c.open_publisher-opened.new.machine;
       first = opened.was;
       last = c.end-last.result;
-      is_opened = subst (λ wanted. g.M.Machine.opens wanted c.args.databases.now.machine c.open_publisher-opened.new.machine c.args.path.now opened.was) c.wanted_by.ensures opened.found;
+      is_opened = subst (λ wanted. g.M.DatabaseOpener.opens wanted c.args.databases.now.machine c.open_publisher-opened.new.machine c.args.path.now opened.was) c.wanted_by.ensures opened.found;
       made = (c.in-Ok.made.0, over_found g.S.Store _ _ opened, (left, made.dry), made.part);
       is_closed = c.close_at.ensures;
     })

@@ -1,6 +1,6 @@
 use Rattle.std.proofs.Common.{◌∙◌, ap}
 use Rattle.sqlite.specs.Held.{Held}
-use Rattle.prt_front.specs.Line.{line_state}
+use Rattle.prt_published.specs.Line.{line_state}
 use Rattle.prt_publisher.specs.Standing.{Standing}
 use Rattle.prt_version.proofs.Folds.{fold_append}
 use Rattle.prt_questions.proofs.applying.submit.Goals as goal

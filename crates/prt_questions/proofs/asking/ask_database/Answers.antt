@@ -2,7 +2,7 @@ use Rattle.std.proofs.Common.{◌≡◌, inr, List, refl, subst, sym}
 use Rattle.std.specs.Prelude.{ℕ, IfOk}
 use Rattle.sqlite.specs.Held.{Held}
 use Rattle.prt_ask.specs.Answers.{AreNotes}
-use Rattle.prt_front.specs.Line.{line_state}
+use Rattle.prt_published.specs.Line.{line_state}
 use Rattle.prt_publisher.specs.Openings.{HasOpened}
 use Rattle.prt_questions.specs.Asking.{said}
 use Rattle.prt_questions.proofs.Asked.{whole_answer}

@@ -2,7 +2,7 @@ use Rattle.std.proofs.Common.{rules, ◌≡◌, ◌⊎◌, ◌∙◌, ℕ, List,
 use Rattle.std.specs.Io.KnownBytes.{Appends}
 use Rattle.prt_ask.specs.Mirrors.{commands_of}
 use Rattle.prt_replies.specs.Written.{Written}
-use Rattle.prt_words.specs.declared.fault.TheConstants.{DONE}
+use Rattle.prt_args.specs.declared.fault.TheConstants.{DONE}
 use Rattle.prt_questions.specs.declared.asking.TheConstants.{REFUSED}
 use Rattle.prt_questions.proofs.Followed.{fed, fed_none, first_lines, lines_after}
 use Rattle.prt_questions.proofs.Statuses.{both_done}

@@ -5,7 +5,7 @@ use Rattle.prt_questions.specs.Analyses.{IsRehearsed, IsRehearsedAtMost}
 use Rattle.prt_questions.specs.LeftOut.{AreKernels, is_kernels}
 use Rattle.prt_questions.specs.Sources.{IsFileOf, IsRead, path_of}
 use Rattle.prt_questions.specs.declared.asking.TheConstants.{REFUSED}
-use Rattle.prt_words.specs.declared.fault.TheConstants.{DONE}
+use Rattle.prt_args.specs.declared.fault.TheConstants.{DONE}
 use Rattle.prt_questions.proofs.Rehearsals.{are_refused, shows, shows_at_most}
 use Rattle.prt_questions.proofs.Statuses.{both_done}
 use Rattle.prt_questions.proofs.impact.rehearse_over.Goals as goal

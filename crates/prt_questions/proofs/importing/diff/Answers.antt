@@ -18,9 +18,9 @@ returns-clause-whole g c = λ done.
     let fence = c.in-Ok.listing.fence in
     let found = c.in-Ok.listing.found in
     let both = both_done _ _ _ c.or_left.ensures done in
-    let shows = shown_later g.S.Store g.M.Machine.opens g.M.Machine.refuses g.M.Machine.closes from (rest_after file) (g.R.Read.remaining c.read_fenced.new.input) c.in-Ok.ensures.left old new (g.W.Write.contents c.read_fenced.new.output) writer shown fence found source (c.show_difference-shown.ensures.whole both.0) in
-    subst (λ (writer0 : Option (List ℕ)). HasCompared g.S.Store g.M.Machine.opens g.M.Machine.refuses g.M.Machine.closes from old new writer0 writer file c.args.diffing.now.reach shown source) c.in-Ok.ensures.unwritten
-    (compared g.S.Store g.M.Machine.opens g.M.Machine.refuses g.M.Machine.closes from old new (g.W.Write.contents c.read_fenced.new.output) writer file c.args.diffing.now.reach source shown found fence (c.in-Ok.ensures.kept both.1) shows)
+    let shows = shown_later g.S.Store g.M.DatabaseOpener.opens g.M.DatabaseOpener.refuses g.M.DatabaseOpener.closes from (rest_after file) (g.R.Read.remaining c.read_fenced.new.input) c.in-Ok.ensures.left old new (g.W.Write.contents c.read_fenced.new.output) writer shown fence found source (c.show_difference-shown.ensures.whole both.0) in
+    subst (λ (writer0 : Option (List ℕ)). HasCompared g.S.Store g.M.DatabaseOpener.opens g.M.DatabaseOpener.refuses g.M.DatabaseOpener.closes from old new writer0 writer file c.args.diffing.now.reach shown source) c.in-Ok.ensures.unwritten
+    (compared g.S.Store g.M.DatabaseOpener.opens g.M.DatabaseOpener.refuses g.M.DatabaseOpener.closes from old new (g.W.Write.contents c.read_fenced.new.output) writer file c.args.diffing.now.reach source shown found fence (c.in-Ok.ensures.kept both.1) shows)
 
 pub returns-clause-at_most : goal.returns-clause-at_most
 returns-clause-at_most g c =
@@ -33,6 +33,6 @@ returns-clause-at_most g c =
     let writer = g.W.Write.contents c.show_difference-shown.new.output in
     let fence = c.in-Ok.listing.fence in
     let found = c.in-Ok.listing.found in
-    let shows = shown_at_most_later g.S.Store g.M.Machine.opens g.M.Machine.refuses g.M.Machine.closes from (rest_after file) (g.R.Read.remaining c.read_fenced.new.input) c.in-Ok.ensures.left old new (g.W.Write.contents c.read_fenced.new.output) writer shown fence found source c.show_difference-shown.ensures.at_most in
-    subst (λ (writer0 : Option (List ℕ)). HasComparedAtMost g.S.Store g.M.Machine.opens g.M.Machine.refuses g.M.Machine.closes from old new writer0 writer file c.args.diffing.now.reach shown source) c.in-Ok.ensures.unwritten
-    (compared_at_most g.S.Store g.M.Machine.opens g.M.Machine.refuses g.M.Machine.closes from old new (g.W.Write.contents c.read_fenced.new.output) writer file c.args.diffing.now.reach source shown found fence c.in-Ok.ensures.made shows)
+    let shows = shown_at_most_later g.S.Store g.M.DatabaseOpener.opens g.M.DatabaseOpener.refuses g.M.DatabaseOpener.closes from (rest_after file) (g.R.Read.remaining c.read_fenced.new.input) c.in-Ok.ensures.left old new (g.W.Write.contents c.read_fenced.new.output) writer shown fence found source c.show_difference-shown.ensures.at_most in
+    subst (λ (writer0 : Option (List ℕ)). HasComparedAtMost g.S.Store g.M.DatabaseOpener.opens g.M.DatabaseOpener.refuses g.M.DatabaseOpener.closes from old new writer0 writer file c.args.diffing.now.reach shown source) c.in-Ok.ensures.unwritten
+    (compared_at_most g.S.Store g.M.DatabaseOpener.opens g.M.DatabaseOpener.refuses g.M.DatabaseOpener.closes from old new (g.W.Write.contents c.read_fenced.new.output) writer file c.args.diffing.now.reach source shown found fence c.in-Ok.ensures.made shows)

@@ -9,7 +9,7 @@ returns-clause-found g c = λ status.
     let from = sources_of g.F.ReadFiles.opens g.F.Opened.Read.remaining c.args.databases.now.files.now g.N.LocalNet.reaches g.N.Stream.Read.remaining c.args.databases.now.rt (g.R.Read.remaining c.args.input.now) in
     let writer = g.W.Write.contents c.search_over.new.output in
     let writer0 = g.W.Write.contents c.args.output.now in
-    found_of g.S.Store g.M.Machine.opens g.M.Machine.refuses g.M.Machine.closes from c.args.databases.now.machine c.tables_at.new.databases.machine c.args.source.now c.in-Ok.tables.left c.in-Ok.tables.version c.search_over.result (IsSearched writer0 writer c.search_over.result) c.in-Ok.ensures.read c.search_over.ensures.left
+    found_of g.S.Store g.M.DatabaseOpener.opens g.M.DatabaseOpener.refuses g.M.DatabaseOpener.closes from c.args.databases.now.machine c.tables_at.new.databases.machine c.args.source.now c.in-Ok.tables.left c.in-Ok.tables.version c.search_over.result (IsSearched writer0 writer c.search_over.result) c.in-Ok.ensures.read c.search_over.ensures.left
     (subst (λ first. IsSearched first writer c.search_over.result c.in-Ok.tables.version) c.in-Ok.ensures.unwritten (c.search_over.ensures.found status))
 
 pub returns-clause-at_most : goal.returns-clause-at_most
@@ -17,5 +17,5 @@ returns-clause-at_most g c =
     let from = sources_of g.F.ReadFiles.opens g.F.Opened.Read.remaining c.args.databases.now.files.now g.N.LocalNet.reaches g.N.Stream.Read.remaining c.args.databases.now.rt (g.R.Read.remaining c.args.input.now) in
     let writer = g.W.Write.contents c.search_over.new.output in
     let writer0 = g.W.Write.contents c.args.output.now in
-    inr (of_tables g.S.Store g.M.Machine.opens g.M.Machine.refuses g.M.Machine.closes from c.args.databases.now.machine c.tables_at.new.databases.machine c.args.source.now c.in-Ok.tables.left c.in-Ok.tables.version (IsSearchedAtMost writer0 writer) c.in-Ok.ensures.read
+    inr (of_tables g.S.Store g.M.DatabaseOpener.opens g.M.DatabaseOpener.refuses g.M.DatabaseOpener.closes from c.args.databases.now.machine c.tables_at.new.databases.machine c.args.source.now c.in-Ok.tables.left c.in-Ok.tables.version (IsSearchedAtMost writer0 writer) c.in-Ok.ensures.read
     (subst (λ first. IsSearchedAtMost first writer c.in-Ok.tables.version) c.in-Ok.ensures.unwritten c.search_over.ensures.at_most))

@@ -1,7 +1,7 @@
 use Rattle.std.proofs.Common.{◌≡◌, arith, false, inr, subst}
 use Rattle.std.specs.Io.KnownBytes.{Appends}
 use Rattle.prt_replies.specs.Written.{Written}
-use Rattle.prt_words.specs.declared.fault.TheConstants.{DONE}
+use Rattle.prt_args.specs.declared.fault.TheConstants.{DONE}
 use Rattle.prt_questions.specs.declared.asking.TheConstants.{REFUSED}
 use Rattle.prt_questions.proofs.searching.search_over.Goals as goal
 

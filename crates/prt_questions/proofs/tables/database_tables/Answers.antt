@@ -1,6 +1,6 @@
 use Rattle.std.proofs.Common.{◌∙◌, inr, sym, subst}
 use Rattle.sqlite.specs.Held.{Held}
-use Rattle.prt_front.specs.Line.{line_state}
+use Rattle.prt_published.specs.Line.{line_state}
 use Rattle.prt_publisher.specs.Openings.{HasOpened}
 use Rattle.prt_questions.proofs.tables.database_tables.Goals as goal
 

@@ -1,5 +1,5 @@
 use Rattle.std.proofs.Common.{◌≡◌, Option, List, ℕ, Err, ap, inl, inr, subst, sym, ◌∙◌}
-use Rattle.prt_front.specs.Line.{Line}
+use Rattle.prt_published.specs.Line.{Line}
 use Rattle.prt_refusals.specs.declared.refusal.Refusal.{Refusal}
 use Rattle.prt_serve.proofs.Files.{together_grows}
 use Rattle.prt_serve.proofs.Resuming.{all_gone}
@@ -7,7 +7,7 @@ use Rattle.prt_serve.specs.Opening.{HasLetGo}
 use Rattle.prt_serve.specs.Resumed.{resumed_remaining, unread_head}
 use Rattle.prt_serve.specs.Together.{FileIs, ServesTogether, ToldIs}
 use Rattle.prt_service.specs.Look.{Look}
-use Rattle.prt_service.specs.declared.not_made.NotMade.TheVariants as why
+use Rattle.prt_service.specs.declared.submit_error.SubmitError.TheVariants as why
 use Rattle.prt_serve.proofs.atomic.serve_atomic.Goals as goal
 
 pub returns-in-Err-clause-served : goal.returns-in-Err-clause-served

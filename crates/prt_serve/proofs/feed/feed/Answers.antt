@@ -1,5 +1,5 @@
 use Rattle.std.proofs.Common.{◌≡◌, ◌∙◌, sym}
-use Rattle.prt_front.specs.Line.{line_state}
+use Rattle.prt_published.specs.Line.{line_state}
 use Rattle.prt_serve.specs.Requests.{number_of}
 use Rattle.prt_serve.proofs.FeedTexts.{feeds_opening, feeds_part, feeds_whole}
 use Rattle.prt_serve.proofs.feed.feed.Goals as goal

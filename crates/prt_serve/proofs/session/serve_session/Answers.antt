@@ -1,5 +1,5 @@
 use Rattle.std.proofs.Common.{◌≡◌, ap, refl, subst, sym, ◌∙◌}
-use Rattle.prt_front.specs.Line.{Line}
+use Rattle.prt_published.specs.Line.{Line}
 use Rattle.prt_serve.specs.Requests.{service_may, service_turn}
 use Rattle.prt_serve.specs.Serving.{Serves}
 use Rattle.prt_serve.proofs.Serving.{shows_path}

@@ -1,5 +1,5 @@
 use Rattle.std.proofs.Common.{of_calls, subst, sym}
-use Rattle.prt_front.proofs.Prefixes.{begins_trans}
+use Rattle.prt_published.proofs.Prefixes.{begins_trans}
 use Rattle.prt_serve.proofs.Jobs.{ServesEach-more, counted_more}
 use Rattle.prt_serve.specs.Jobs.{ServesKind}
 use Rattle.prt_serve.specs.declared.worker.Kind.{Kind}

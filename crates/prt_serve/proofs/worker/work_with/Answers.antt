@@ -1,5 +1,5 @@
 use Rattle.std.proofs.Common.{length, subst, sym}
-use Rattle.prt_front.specs.Line.{Line}
+use Rattle.prt_published.specs.Line.{Line}
 use Rattle.prt_serve.proofs.Jobs.{counted_most}
 use Rattle.prt_serve.proofs.Kept.{keeps_each}
 use Rattle.prt_serve.specs.Jobs.{ServesCounted}

@@ -1,5 +1,5 @@
 use Rattle.std.proofs.Common.{Ok, Result, sym, ◌∙◌, ap}
-use Rattle.prt_front.specs.Line.{Line}
+use Rattle.prt_published.specs.Line.{Line}
 use Rattle.prt_refusals.specs.declared.refusal.Refusal.{Refusal}
 use Rattle.prt_service.specs.Group.{answer_before}
 use Rattle.prt_service.proofs.Receipts.{own_answer}

@@ -1,6 +1,6 @@
 use Rattle.std.proofs.Common.{◌≡◌, Some, ap, sym, ◌∙◌}
 use Rattle.std.proofs.lemmas.List.Elements.{All-pop}
-use Rattle.prt_front.specs.Line.{Line}
+use Rattle.prt_published.specs.Line.{Line}
 use Rattle.prt_thread_tests.proofs.front.look_around.Goals as goal
 
 pub learn-requires : goal.learn-requires

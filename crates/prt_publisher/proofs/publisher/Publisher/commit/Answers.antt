@@ -5,7 +5,7 @@ use Rattle.prt_store.proofs.Accepted.{as_many}
 use Rattle.prt_store.proofs.Exits.{keeps_after, spares_after}
 use Rattle.prt_store.specs.Exits.{IsStored, SparesOthers}
 use Rattle.prt_store.specs.Next.{put_all}
-use Rattle.prt_front.specs.Line.{line_state}
+use Rattle.prt_published.specs.Line.{line_state}
 use Rattle.prt_publisher.specs.Standing.{Agrees, Standing, unnoted}
 use Rattle.prt_publisher.specs.Step.{IsStep, commands_of, phase_of}
 use Rattle.prt_publisher.specs.declared.publisher.Step.{Step}

@@ -1,5 +1,5 @@
 use Rattle.std.proofs.Common.{◌≡◌, ap, sym, ◌∙◌, arith}
-use Rattle.prt_front.specs.Line.{Line, line_state}
+use Rattle.prt_published.specs.Line.{Line, line_state}
 use Rattle.prt_version.specs.State.{State}
 use Rattle.prt_version.proofs.Folds.{count_fold}
 use Rattle.prt_publisher.proofs.publisher.Publisher.note.Goals as goal

@@ -1,6 +1,6 @@
 use Rattle.std.proofs.Common.{◌≡◌, ◌+◌, ap, sym, ◌∙◌, length, subst, arith}
 use Rattle.std.specs.Arc.{arc_value}
-use Rattle.prt_front.specs.Line.{grown_by, line_state}
+use Rattle.prt_published.specs.Line.{grown_by, line_state}
 use Rattle.prt_version.specs.Change.{fold}
 use Rattle.prt_version.specs.State.{State}
 use Rattle.prt_store.specs.Exits.{IsStored}

@@ -6,7 +6,7 @@ use Rattle.prt_version.specs.Change.{fold}
 use Rattle.sqlite.specs.Held.{Held, state}
 use Rattle.sqlite.specs.State.{HasCleanDisk}
 use Rattle.prt_publisher.specs.Exits.{HaveCommitted}
-use Rattle.prt_front.specs.Line.{line_state}
+use Rattle.prt_published.specs.Line.{line_state}
 use Rattle.prt_publisher.specs.Standing.{Standing}
 use Rattle.prt_publisher.specs.Step.{commands_checked}
 use Rattle.prt_publisher.specs.declared.phase.Phase.TheVariants.{Closed}

@@ -1,5 +1,5 @@
 use Rattle.std.proofs.Common.{◌≡◌, ◌+◌, ◌-◌, ap, arith, length, length-take-le, sym, ◌∙◌}
-use Rattle.prt_front.specs.Line.{Line}
+use Rattle.prt_published.specs.Line.{Line}
 use Rattle.prt_version.proofs.Folds.{count_fold}
 use Rattle.prt_publisher.proofs.receipt.Receipt.of_earlier.Goals as goal
 

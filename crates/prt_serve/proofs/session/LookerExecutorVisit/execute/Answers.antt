@@ -1,5 +1,5 @@
 use Rattle.std.proofs.Common.{◌≡◌, Some, ap, refl, subst, ◌∙◌}
-use Rattle.prt_front.specs.Line.{Begins, Line}
+use Rattle.prt_published.specs.Line.{Begins, Line}
 use Rattle.prt_serve.specs.Requests.{taken, refused, seen, unanswered, unseen}
 use Rattle.prt_replies.specs.declared.reply.Reply.TheVariants.{Accepted, Answered, Refused}
 use Rattle.prt_serve.proofs.session.LookerExecutorVisit.execute.Goals as goal

@@ -1,6 +1,6 @@
 use Rattle.std.proofs.Common.{Bool, subst}
 use Rattle.std.specs.Prelude.{MatchBool}
-use Rattle.prt_front.specs.Line.{Begins}
+use Rattle.prt_published.specs.Line.{Begins}
 use Rattle.prt_serve.proofs.Kept.{keeps_more}
 use Rattle.prt_serve.specs.Kept.{Keeps, Work}
 use Rattle.prt_serve.proofs.shift.Shift.is_kept_by.Goals as goal

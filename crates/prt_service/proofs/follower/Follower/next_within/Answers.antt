@@ -1,5 +1,5 @@
 use Rattle.std.proofs.Common.{◌≡◌, ◌∙◌, subst, sym}
-use Rattle.prt_front.specs.Line.{Line, grown}
+use Rattle.prt_published.specs.Line.{Line, grown}
 use Rattle.prt_service.proofs.Following.{learned}
 use Rattle.prt_service.proofs.follower.Follower.next_within.Goals as goal
 

@@ -1,5 +1,0 @@
-use Rattle.prt_front.proofs.Rules.{reads}
-use Rattle.prt_front.proofs.copies.read.Goals as goal
-
-pub enter_as-requires : goal.enter_as-requires
-enter_as-requires c = reads _ _

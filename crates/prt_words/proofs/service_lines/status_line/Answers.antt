@@ -1,6 +1,0 @@
-use Rattle.prt_words.proofs.service_lines.status_line.Goals as goal
-
-pub returns-clause-line : goal.returns-clause-line
-returns-clause-line c =
-    let formed = c.with_argument-formed.ensures.line _ _ c.server_line.ensures.line c.flag.ensures.rule c.flag.ensures.own in
-    c.with_argument.ensures.line _ _ formed c.flag-2.ensures.rule c.flag-2.ensures.own
