@@ -79,6 +79,7 @@ pub(crate) fn look<S: Alter + Drop, J: ServiceBrand, H: Wait>(
     service: &Service<S, J>,
     looker: &mut Looker,
 ) -> Result<u64, Refusal>
+    requires { (looker.old.known.book ≡ J.book) × (looker.old.known.base ≡ J.base) }
     ensures same { (looker.new.known.book ≡ looker.old.known.book) × (looker.new.known.base ≡ looker.old.known.base) }
     ensures online { IfOk result (λ number. IsSome looker.new.held) }
 {

@@ -104,6 +104,7 @@ fn submit_beside<S: Alter + Drop, J: ServiceBrand, H: Wait + Clock, W: Write>(
     looker: &mut Looker,
     output: &mut W,
 ) -> Result<(), Refusal>
+    requires { (looker.old.known.book ≡ J.book) × (looker.old.known.base ≡ J.base) }
     ensures { (looker.new.known.book ≡ looker.old.known.book) × (looker.new.known.base ≡ looker.old.known.base) }
 {
     tell_number(output, look(rt, service, looker)?)?;
@@ -143,7 +144,9 @@ fn go_on_closed<S: Alter + Drop, J: ServiceBrand, H: Wait + Clock, W: Write>(
     service: &Service<S, J>,
     looker: &mut Looker,
     output: &mut W,
-) -> Result<(), Refusal> {
+) -> Result<(), Refusal>
+    requires { (looker.old.known.book ≡ J.book) × (looker.old.known.base ≡ J.base) }
+{
     if let Err(reason) = submit_next(rt, service, 0) {
         tell(output, &Reply::Refused(reason))?;
     }

@@ -39,7 +39,7 @@ impl Domain {
         self.lock(rt).registry.join()
     }
 
-    /// Frees the place of a looker, with what it has announced. A place of another registry frees none here.
+    /// Frees the place of a looker, with what it has announced. If no place of this registry has its entry, nothing changes.
     pub fn part<H: Wait>(&self, rt: &H, place: Place) {
         let mut locked = self.lock(rt);
         if locked.registry.has(&place) {
@@ -48,7 +48,7 @@ impl Domain {
     }
 
     /// Brings a looker online: it announces the noted number, unless it is online already. Returns the number that it has
-    /// announced then. If the place is of another registry, this one stays as it is.
+    /// announced then. If no place of this registry has its entry, the registry stays as it is.
     pub fn online<H: Wait>(&self, rt: &H, place: &mut Place) -> u64
         ensures place { place.new ≡ record place.old { announced = Some result } }
         ensures kept { IfSome place.old.announced (λ number. result ≡ number) }
@@ -63,7 +63,7 @@ impl Domain {
     }
 
     /// Announces that the looker holds no version below this number. The looker is online, and the number is at least
-    /// the one that it has announced. If the place is of another registry, this one stays as it is.
+    /// the one that it has announced. If no place of this registry has its entry, the registry stays as it is.
     pub fn announce<H: Wait>(&self, rt: &H, place: &mut Place, number: u64)
         requires online { IsSome place.old.announced }
         requires later { IfSome place.old.announced (λ before. before ≤ number) }
@@ -77,7 +77,7 @@ impl Domain {
         }
     }
 
-    /// Takes a looker offline: it holds no version. If the place is of another registry, this one stays as it is.
+    /// Takes a looker offline: it holds no version. If no place of this registry has its entry, the registry stays as it is.
     pub fn offline<H: Wait>(&self, rt: &H, place: &mut Place)
         ensures { place.new ≡ record place.old { announced = None } }
     {

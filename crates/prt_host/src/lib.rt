@@ -15,5 +15,7 @@ mod telling;
 pub use door::{Door, ServerNet};
 pub use entry::run;
 pub use laws::runs_go_on;
-pub use prt_questions::{DatabaseFiles, DatabaseOpener, Wanted};
+pub use prt_program::{ErrorKeeping, ReadFiles};
+pub use prt_questions::{DatabaseFiles, DatabaseOpener, LocalNet, Wanted};
+pub use sqlite::{Alter, Connection};
 pub use status::Measures;

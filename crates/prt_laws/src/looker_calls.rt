@@ -43,6 +43,7 @@ pub fn refresh<S: Alter + Drop, J: ServiceBrand, W: Wait>(
     rt: &W,
     service: &Service<S, J>,
 ) -> Result<(), Refusal>
+    requires { (looker.old.known.book ≡ J.book) × (looker.old.known.base ≡ J.base) }
     ensures ok { OnOk result (Refreshes looker.old looker.new) }
     ensures err { OnErr result (RefreshesNot looker.old looker.new) }
 {
@@ -58,6 +59,7 @@ pub fn rest<S: Alter + Drop, J: ServiceBrand, W: Wait>(
     rt: &W,
     service: &Service<S, J>,
 )
+    requires { (looker.old.known.book ≡ J.book) × (looker.old.known.base ≡ J.base) }
     ensures { Rests looker.old looker.new }
 {
     looker.rest(rt, service);

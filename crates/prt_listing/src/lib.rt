@@ -16,7 +16,8 @@ pub use part::{
     Part, Value, addr_part, dev_part, is_everything, prefix_or, protocol_value, scope_value,
     table_value,
 };
-pub use prt_version::{Answer, Refusal, Route, Rule};
+pub use prt_command::{Action, Addr, Dev, Mark, Prefix, Query};
+pub use prt_version::{Answer, Refusal, Route, Rule, Version};
 pub use push::{push_part, push_text};
 pub use query::query_text;
 pub use refusal::refusal_text;

@@ -14,5 +14,6 @@ pub use error_keeping::ErrorKeeping;
 pub use messages::{Messages, cause_message, complaint, log_message, question_message, shown_text};
 pub use next::Next;
 pub use prt::{buffered, exit_status, program};
+pub use prt_args::{Asked, Fault, ServeArgs, Submitting};
 pub use prt_session::{Desk, Refusal, ScriptEnd};
 pub use read_files::ReadFiles;

@@ -50,8 +50,8 @@ impl Publisher<FileStore<File>> {
     /// `OpenFailed` with the library's error if the path can't be opened or the file is no database; otherwise, with the
     /// connection, as `Publisher::adopt`.
     pub fn open(
-        alloc: Global,
         rt: &HostRuntime,
+        alloc: Global,
         path: &str,
     ) -> Result<
         (Publisher<FileStore<File>>, Domain),

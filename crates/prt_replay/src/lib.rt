@@ -16,8 +16,8 @@ mod words;
 
 pub use event_examples::{event_lines, outcome_lines, refused_lines};
 pub use play::play_events;
-pub use prt_refusals::Refusal;
-pub use prt_replies::ScriptEnd;
+pub use prt_refusals::{Refusal, StoreCall};
+pub use prt_replies::{Observer, ScriptEnd};
 pub use prt_world::{Event, Outcome};
 pub use replay::run_replay;
 pub use replay_file::{LONGEST_REPLAY, MOST_EVENTS, read_events};

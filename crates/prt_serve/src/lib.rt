@@ -28,6 +28,8 @@ pub use feeding::serve_and_feed;
 pub use gate::{Gate, OpenGate, Queued};
 pub use listen::{Accepting, Entrance, Limits, ServeEnd, Worked, accept, serve_all};
 pub use places::Places;
+pub use prt_replies::{Reply, ScriptEnd};
+pub use prt_service::{Alter, Command, Known, Looker, Refusal, Service, ServiceBrand, Unfollowed};
 pub use reporting::{Entrances, serve_entrances};
 pub use room::{Arrival, Connected};
 pub use session::{Visit, serve_session};

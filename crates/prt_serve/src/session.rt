@@ -38,7 +38,8 @@ fn go_online<H: Wait + Clock, S: Alter + Drop, J: ServiceBrand>(
     visit: &Visit<'_, H, S, J>,
     looker: &mut Looker,
 ) -> Result<(), Refusal>
-    requires { IfSome looker.old.held (λ line. line ≡ looker.old.known) }
+    requires held { IfSome looker.old.held (λ line. line ≡ looker.old.known) }
+    requires of { (looker.old.known.book ≡ J.book) × (looker.old.known.base ≡ J.base) }
     ensures known { Begins looker.old.known looker.new.known }
     ensures held { MatchResult result (λ _. looker.new.held ≡ Some looker.new.known) (λ _. looker.new.held ≡ None) }
     ensures reason { IfErr result (λ reason. reason ≡ Refusal.NotFetched) }
@@ -54,6 +55,7 @@ fn go_offline<H: Wait + Clock, S: Alter + Drop, J: ServiceBrand>(
     visit: &Visit<'_, H, S, J>,
     looker: &mut Looker,
 )
+    requires { (looker.old.known.book ≡ J.book) × (looker.old.known.base ≡ J.base) }
     ensures known { looker.new.known ≡ looker.old.known }
     ensures held { looker.new.held ≡ None }
 {
@@ -96,7 +98,8 @@ fn answer<H: Wait + Clock, S: Alter + Drop, J: ServiceBrand>(
     looker: &mut Looker,
     query: &Query,
 ) -> Result<Text, Refusal>
-    requires { looker.old.held ≡ Some looker.old.known }
+    requires held { looker.old.held ≡ Some looker.old.known }
+    requires of { (looker.old.known.book ≡ J.book) × (looker.old.known.base ≡ J.base) }
     ensures text { IfOk result (λ text. text ≡ query_text (line_state looker.old.known) query.now) }
     ensures reason { IfErr result (λ reason. reason ≡ Refusal.NoMemory) }
     ensures known { looker.new.known ≡ looker.old.known }

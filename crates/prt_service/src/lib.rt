@@ -34,6 +34,11 @@ pub use follower::Follower;
 pub use followers::Unfollowed;
 pub use looker::Looker;
 pub use news::News;
+pub use prt_grace::{Domain, Retention};
+pub use prt_publisher::{
+    Alter, Command, Connection, Error, Known, Publisher, Receipt, Refusal, Seats, Version,
+};
+pub use prt_version::{Answer, Packet};
 pub use released::Released;
 pub use service::Service;
 pub use service_brand::ServiceBrand;

@@ -106,6 +106,7 @@ impl Looker {
         rt: &W,
         service: &Service<S, J>,
     ) -> Result<(), Refusal>
+        requires { (self.old.known.book ≡ J.book) × (self.old.known.base ≡ J.base) }
         ensures known { Begins self.old.known self.new.known }
         ensures held { MatchResult result (λ _. (self.new.held ≡ Some self.new.known) × (self.new.announced ≡ Some (line_state self.new.known).count))
             (λ _. (self.new.held ≡ self.old.held) × (self.new.announced ≡ self.old.announced)) }
@@ -138,6 +139,7 @@ impl Looker {
         rt: &W,
         service: &Service<S, J>,
     )
+        requires { (self.old.known.book ≡ J.book) × (self.old.known.base ≡ J.base) }
         ensures { self.new ≡ record self.old { held = None; announced = None } }
     {
         drop(self.held.take());
@@ -151,7 +153,8 @@ impl Looker {
         rt: &W,
         service: &Service<S, J>,
     ) -> Arc<Version>
-        requires { IsSome self.old.held }
+        requires online { IsSome self.old.held }
+        requires of { (self.old.known.book ≡ J.book) × (self.old.known.base ≡ J.base) }
         ensures version { IfSome self.old.held (λ line. arc_value result ≡ line_state line) }
         ensures looker { self.new ≡ record self.old { held = None; announced = None } }
     {

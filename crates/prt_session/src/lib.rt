@@ -25,7 +25,7 @@ pub use input::{ByteRead, next_byte};
 pub use laws::{all_or_none, closed_replies, list_replies, session_ends};
 pub use limits::MOST_TOGETHER;
 pub use memory_desk::MemoryDesk;
-pub use prt_command::{Command, Query, Refusal};
+pub use prt_command::{Command, Query, Refusal, Request};
 pub use prt_refusals::OnRefusal;
 pub use prt_replies::{Observer, Reply, ScriptEnd, Text, Unobserved};
 pub use script::run_script;

@@ -3,7 +3,8 @@ ghost use Rattle.std.specs.Prelude.{◌≡◌, ◌+◌, ◌-◌, ◌&&◌, ◌�
 ghost use Rattle.sqlite_disk.specs.Disk.{CountsFault};
 ghost use Rattle.sqlite_disk.specs.Refusal.{finds_no_room};
 
-use sqlite_disk::{Disk, Tally};
+pub use sqlite_disk::Disk;
+use sqlite_disk::Tally;
 use std::io;
 
 /// A disk that passes so many calls on, fails one, and passes each later one on.

@@ -1,4 +1,5 @@
 //! A looker beside commands that are made together.
+ghost use Rattle.std.specs.Prelude.{◌≡◌};
 ghost use Rattle.prt_publisher.specs.Standing.{IsQuiet};
 ghost use Rattle.prt_service.specs.Named.{IsNamed};
 
@@ -23,7 +24,10 @@ fn seen<S: Alter + Drop, J: ServiceBrand, H: Wait>(
     rt: &H,
     service: &Service<S, J>,
     looker: &mut Looker,
-) -> Result<Seen, Refusal> {
+) -> Result<Seen, Refusal>
+    requires { (looker.old.known.book ≡ J.book) × (looker.old.known.base ≡ J.base) }
+    ensures { (looker.new.known.book ≡ looker.old.known.book) × (looker.new.known.base ≡ looker.old.known.base) }
+{
     looker.refresh(rt, service)?;
     let has_route = matches!(looker.look(&packet()).verdict, Verdict::Route(_, _));
     let version = looker.version();
