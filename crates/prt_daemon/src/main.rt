@@ -11,7 +11,6 @@ use prt_host::{DatabaseFiles, DatabaseOpener, Measures, ServerNet, run};
 use prt_program::{ErrorKeeping, ReadFiles};
 use sqlite::{Alter, Connection};
 use std::alloc::Global;
-use std::fs::Files;
 use std::io::{IsTerminal, Read, Write};
 use std::process::ExitCode;
 use std::rt::Clock;
@@ -24,7 +23,7 @@ use std::{env, io};
 fn run_over<
     S: Alter + Drop + Send,
     M: DatabaseOpener<Connection<S>> + Drop,
-    F: Files + ReadFiles + Measures + Clock + Drop + Sync,
+    F: ReadFiles + Measures + Clock + Drop + Sync,
     N: ServerNet + Threads + Wait + Clock + Copy + Drop + Send + Sync,
     R: Read + Drop,
     W: Write + IsTerminal + Drop,

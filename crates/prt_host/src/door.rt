@@ -26,7 +26,14 @@ pub trait ServerNet: LocalNet {
     /// # Errors
     ///
     /// The system's. `AddrInUse` if somebody listens there, `AlreadyExists` if the file is no socket: it stays as it is.
-    fn at_path<F: Files>(&self, files: &F, path: &str) -> io::Result<Self::Door>;
+    fn at_path(&self, path: &str) -> io::Result<Self::Door>;
+
+    /// Returns the number of the inode of a file, by which it is known from one that is put in its place. `None` if there is
+    /// none.
+    fn inode_at(&self, path: &str) -> Option<u64>;
+
+    /// Removes a socket file, unless it has another inode. No other file is removed.
+    fn remove_socket(&self, path: &str, inode: Option<u64>);
 }
 
 /// A listener at a TCP port or at a Unix socket.
@@ -36,17 +43,22 @@ pub enum Door {
     Local(UnixListener),
 }
 
-/// Returns the number of the inode of a file, by which it is known from one that is put in its place. `None` if there is none.
-pub(crate) fn inode_at<F: Files>(files: &F, path: &str) -> Option<u64> {
+/// Returns the number of the inode of a file. `None` if there is none.
+fn inode_of<F: Files>(files: &F, path: &str) -> Option<u64> {
     match files.symlink_metadata(path) {
         Ok(found) => Some(found.ino()),
         Err(_) => None,
     }
 }
 
+/// Checks whether a file is a socket.
+fn is_socket<F: Files>(files: &F, path: &str) -> io::Result<bool> {
+    Ok(files.symlink_metadata(path)?.file_type().is_socket())
+}
+
 /// Checks that a file is a socket at which nobody listens.
 fn check_left_over<N: LocalNet, F: Files>(rt: &N, files: &F, path: &str) -> io::Result<()> {
-    if !files.symlink_metadata(path)?.file_type().is_socket() {
+    if !is_socket(files, path)? {
         return Err(io::Error::from(ErrorKind::AlreadyExists));
     }
     match UnixStream::connect(rt, path) {
@@ -60,9 +72,9 @@ fn check_left_over<N: LocalNet, F: Files>(rt: &N, files: &F, path: &str) -> io::
 fn bind_at<N: LocalNet, F: Files>(rt: &N, files: &F, path: &str) -> io::Result<UnixListener> {
     match rt.bind_local(path) {
         Err(error) if error.kind() == ErrorKind::AddrInUse => {
-            let inode = inode_at(files, path);
+            let inode = inode_of(files, path);
             check_left_over(rt, files, path)?;
-            if inode_at(files, path) != inode {
+            if inode_of(files, path) != inode {
                 return Err(error);
             }
             files.remove_file(path)?;
@@ -81,10 +93,20 @@ impl ServerNet for HostRuntime {
         Ok(Door::Tcp(listener))
     }
 
-    fn at_path<F: Files>(&self, files: &F, path: &str) -> io::Result<Door> {
-        let listener = bind_at(self, files, path)?;
+    fn at_path(&self, path: &str) -> io::Result<Door> {
+        let listener = bind_at(self, self, path)?;
         set_local_accept_timeout(&listener, Duration::from_millis(PATIENCE))?;
         Ok(Door::Local(listener))
+    }
+
+    fn inode_at(&self, path: &str) -> Option<u64> {
+        inode_of(self, path)
+    }
+
+    fn remove_socket(&self, path: &str, inode: Option<u64>) {
+        if matches!(is_socket(self, path), Ok(true)) && inode_of(self, path) == inode {
+            let _removed = self.remove_file(path).is_ok();
+        }
     }
 }
 

@@ -1,12 +1,11 @@
 //! Where a server listens, all of it.
 
-use crate::door::{ServerNet, inode_at};
+use crate::door::ServerNet;
 use prt_args::ServeArgs;
 use prt_questions::Socket;
 use prt_serve::{Entrance, Entrances, Kind};
 use std::alloc::Global;
 use std::fmt;
-use std::fs::Files;
 use std::io::{self, ErrorKind, Write};
 use std::net::{OpenListener, SocketAddr, SocketAddrV4};
 
@@ -91,10 +90,8 @@ struct SocketFile {
 
 impl SocketFile {
     /// Removes it, unless another server has put one in its place.
-    fn remove<F: Files>(&self, files: &F) {
-        if inode_at(files, &self.path) == self.inode {
-            let _removed = files.remove_file(&self.path).is_ok();
-        }
+    fn remove<N: ServerNet>(&self, rt: &N) {
+        rt.remove_socket(&self.path, self.inode);
     }
 }
 
@@ -135,27 +132,25 @@ impl<N: ServerNet> Doors<N> {
     }
 
     /// Makes a socket in a directory, and listens there.
-    fn open_socket<F: Files>(
+    fn open_socket(
         &mut self,
         rt: &N,
-        files: &F,
         alloc: Global,
         directory: &str,
         socket: Socket,
     ) -> io::Result<()> {
         let path = format!(in alloc; "{directory}/{}", socket.name())?;
         self.files.reserve(1)?;
-        let listener = rt.at_path(files, &path)?;
-        let inode = inode_at(files, &path);
+        let listener = rt.at_path(&path)?;
+        let inode = rt.inode_at(&path);
         self.files.push_reserved(SocketFile { path, inode });
         self.add(socket, listener)
     }
 
     /// Makes all sockets in a directory.
-    fn open_sockets<'a, F: Files>(
+    fn open_sockets<'a>(
         &mut self,
         rt: &N,
-        files: &F,
         alloc: Global,
         directory: &'a str,
     ) -> Result<(), PlaceError<'a>> {
@@ -166,7 +161,7 @@ impl<N: ServerNet> Doors<N> {
             });
         }
         for socket in SOCKETS {
-            if let Err(error) = self.open_socket(rt, files, alloc, directory, socket) {
+            if let Err(error) = self.open_socket(rt, alloc, directory, socket) {
                 let place = match error.kind() {
                     ErrorKind::NotFound => Place::Directory(directory),
                     _ => Place::Socket(directory, socket.name()),
@@ -179,9 +174,9 @@ impl<N: ServerNet> Doors<N> {
     }
 
     /// Removes the socket files, except those in whose place another server has put its own.
-    pub(crate) fn remove_files<F: Files>(&self, files: &F) {
+    pub(crate) fn remove_files(&self, rt: &N) {
         for file in &self.files {
-            file.remove(files);
+            file.remove(rt);
         }
     }
 }
@@ -251,17 +246,16 @@ fn open_ports<N: ServerNet, W: Write>(
 }
 
 /// Listens at all places that are asked for.
-fn open_all<'a, N: ServerNet, F: Files, W: Write>(
+fn open_all<'a, N: ServerNet, W: Write>(
     doors: &mut Doors<N>,
     rt: &N,
-    files: &F,
     alloc: Global,
     asked: &ServeArgs<'a>,
     output: &mut W,
 ) -> Result<(), PlaceError<'a>> {
     open_ports(doors, rt, asked, output)?;
     if let Some(directory) = asked.sockets {
-        doors.open_sockets(rt, files, alloc, directory)?;
+        doors.open_sockets(rt, alloc, directory)?;
         tell_place("sockets", &directory, output)?;
     }
     Ok(())
@@ -273,18 +267,17 @@ fn open_all<'a, N: ServerNet, F: Files, W: Write>(
 /// # Errors
 ///
 /// The first place that can't be listened at, and why. No socket file is left then of those that were made.
-pub(crate) fn listen<'a, N: ServerNet, F: Files, W: Write>(
+pub(crate) fn listen<'a, N: ServerNet, W: Write>(
     rt: &N,
-    files: &F,
     alloc: Global,
     asked: &ServeArgs<'a>,
     output: &mut W,
 ) -> Result<Doors<N>, PlaceError<'a>> {
     let mut doors = Doors::new(alloc);
-    match open_all(&mut doors, rt, files, alloc, asked, output) {
+    match open_all(&mut doors, rt, alloc, asked, output) {
         Ok(()) => Ok(doors),
         Err(failure) => {
-            doors.remove_files(files);
+            doors.remove_files(rt);
             Err(failure)
         }
     }

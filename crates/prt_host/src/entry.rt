@@ -12,7 +12,6 @@ use prt_program::{ErrorKeeping, Next, ReadFiles, program};
 use prt_questions::{DatabaseFiles, DatabaseOpener, answer_question, submit_script};
 use sqlite::{Alter, Connection};
 use std::alloc::Global;
-use std::fs::Files;
 use std::io::{IsTerminal, Read, Write};
 use std::rt::Clock;
 use std::sync::Wait;
@@ -29,7 +28,7 @@ use std::thread::Threads;
 pub fn run<
     S: Alter + Drop + Send,
     M: DatabaseOpener<Connection<S>> + Drop,
-    F: Files + ReadFiles + Measures + Clock + Drop + Sync,
+    F: ReadFiles + Measures + Clock + Drop + Sync,
     N: ServerNet + Threads + Wait + Clock + Copy + Drop + Send + Sync,
     R: Read,
     W: Write + IsTerminal,

@@ -20,7 +20,6 @@ use prt_serve::{Entrances, ServeEnd};
 use sqlite::{Alter, Connection};
 use std::alloc::Global;
 use std::fmt::Display;
-use std::fs::Files;
 use std::io::{self, Write};
 use std::marker::Brand;
 use std::rt::Clock;
@@ -129,7 +128,7 @@ where
 /// Listens, and serves what comes over a publisher. Returns why not all that was asked for was served, and the connection.
 fn serve_over<
     S: Alter + Drop + Send,
-    F: Files + Measures + Sync,
+    F: Measures + Sync,
     N: ServerNet + Threads + Wait + Clock + Drop + Send + Sync,
     W: Write,
     E: Write + Drop + Send,
@@ -150,7 +149,7 @@ where
     ensures fault { IfSome result.0 (λ failure. IsFaultOfServing failure.fault) }
     ensures left { (shifts : List Work) × IsLeft S.Store publisher.line.book publisher.line.base publisher.ours_first shifts result.1 × (result.0 ≡ None → length shifts ≡ asked.now.workers) }
 {
-    let doors = match listen(rt, files, alloc, asked, output) {
+    let doors = match listen(rt, alloc, asked, output) {
         Ok(doors) => doors,
         Err(PlaceError { place, error }) => {
             let failure = ServeError::new(alloc, Fault::Listener, &place, Some(&error));
@@ -167,7 +166,7 @@ where
         asked,
         errors,
     );
-    doors.remove_files(files);
+    doors.remove_files(rt);
     served
 }
 
@@ -179,7 +178,7 @@ where
 fn serve_database<
     S: Alter + Drop + Send,
     M: DatabaseOpener<Connection<S>> + Drop,
-    F: Files + Measures + Sync,
+    F: Measures + Sync,
     N: ServerNet + Threads + Wait + Clock + Copy + Drop + Send + Sync,
     W: Write,
     E: Write + Drop + Send,
@@ -226,7 +225,7 @@ where
 pub(crate) fn serve<
     S: Alter + Drop + Send,
     M: DatabaseOpener<Connection<S>> + Drop,
-    F: Files + Measures + Sync,
+    F: Measures + Sync,
     N: ServerNet + Threads + Wait + Clock + Copy + Drop + Send + Sync,
     W: Write,
     E: Write + Drop + Send,
