@@ -110,7 +110,7 @@ impl ServerNet for HostRuntime {
     }
 }
 
-/// Returns the address that stands for a client at a Unix socket.
+/// Returns the address that a client at a Unix socket is given.
 fn local_client() -> SocketAddr {
     SocketAddr::V4(SocketAddrV4::new(Ipv4Addr::UNSPECIFIED, 0))
 }

@@ -56,7 +56,7 @@ pub trait Databases {
     /// Returns the error that failed a commit of an open database, if one failed: it is closed to commands since then.
     fn failure(&self, desk: &Self::Opened) -> Option<Self::Error>;
 
-    /// Closes a database, so that its file alone has all of it. A later opening finds what the desk stands for as stored.
+    /// Closes a database, so that its file alone has all of it. A later opening finds stored what the desk represents.
     ///
     /// # Errors
     ///

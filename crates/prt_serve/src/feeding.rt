@@ -118,7 +118,7 @@ fn stop_waiting<L: OpenListener>(listeners: &[L]) -> bool {
     true
 }
 
-/// Accepts connections, and hands each to a feeder that is free or soon is, until it is told to end. One for which no feeder
+/// Accepts connections, and hands each to a feeder that is free or soon is, until it has to end. One for which no feeder
 /// is free is closed. Closes the channel behind it.
 fn accept_feeds<H: Wait + Clock, G: Gate, T: Drop, L: OpenListener<Stream = T>>(
     rt: &H,
@@ -144,7 +144,7 @@ fn accept_feeds<H: Wait + Clock, G: Gate, T: Drop, L: OpenListener<Stream = T>>(
     unreachable!()
 }
 
-/// Feeds the connections of listeners until it is told to end, and following has ended.
+/// Feeds the connections of listeners until it has to end, and following has ended.
 fn feed_all<
     H: Threads + Wait + Clock + Sync,
     S: Alter + Drop + Send,

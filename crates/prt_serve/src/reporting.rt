@@ -47,7 +47,7 @@ fn report<G: Gate, T: Write + OpenStream + Drop>(gate: &G, alloc: Global, mut st
     let _told = stream.write(text.as_bytes()).is_ok();
 }
 
-/// Reports the status to each client that comes, one after another, until it is told to end.
+/// Reports the status to each client that comes, one after another, until it has to end.
 fn report_all<H: Wait + Clock, G: Gate, T: Write + OpenStream + Drop, L: OpenListener<Stream = T>>(
     rt: &H,
     alloc: Global,

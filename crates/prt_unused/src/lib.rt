@@ -1,4 +1,4 @@
-//! Rules that decide no packet, routes that no packet gets, and what is told of each.
+//! Rules that decide no packet, routes that no packet gets, and what is reported of each.
 #![tactic(auto)]
 
 mod matching;

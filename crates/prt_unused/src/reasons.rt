@@ -1,4 +1,4 @@
-//! What is told of a rule that decides no packet, and of a route that no packet gets.
+//! What is reported of a rule that decides no packet, and of a route that no packet gets.
 ghost use Rattle.std.specs.Prelude.{◌≡◌, MatchOption, find};
 ghost use Rattle.std.specs.List.{list_any};
 ghost use Rattle.prt_rule.specs.Rule.{matches};
@@ -126,7 +126,7 @@ fn route_reason(version: &Version, route: &Route) -> RouteReason
     }
 }
 
-/// Returns the route with what is told of it.
+/// Returns the route with what is reported of it.
 pub(crate) fn unused_route(version: &Version, route: &Route) -> UnusedRoute
     ensures route { result.route ≡ route.now }
     ensures reason { IsRouteReason version.now route.now result.reason }

@@ -1,4 +1,4 @@
-//! Rules that decide no packet, routes that no packet gets, and what is told of each.
+//! Rules that decide no packet, routes that no packet gets, and what is reported of each.
 
 use prt_route::Route;
 use prt_rule::{Packet, Rule};
@@ -13,7 +13,7 @@ pub struct Example {
     pub verdict: Verdict,
 }
 
-/// What is told of a rule that decides no packet.
+/// What is reported of a rule that decides no packet.
 #[derive(Clone, Copy)]
 pub enum RuleReason {
     /// No packet matches it.
@@ -22,7 +22,7 @@ pub enum RuleReason {
     Matches(Example),
 }
 
-/// What is told of a route that no packet gets.
+/// What is reported of a route that no packet gets.
 #[derive(Clone, Copy)]
 pub enum RouteReason {
     /// No rule looks up its table.
@@ -40,7 +40,7 @@ pub enum RouteReason {
 pub struct UnusedRule {
     /// The rule.
     pub rule: Rule,
-    /// What is told of it.
+    /// What is reported of it.
     pub reason: RuleReason,
 }
 
@@ -49,7 +49,7 @@ pub struct UnusedRule {
 pub struct UnusedRoute {
     /// The route.
     pub route: Route,
-    /// What is told of it.
+    /// What is reported of it.
     pub reason: RouteReason,
 }
 

@@ -63,7 +63,7 @@ fn with_rule_reasons(
         .collect(alloc)
 }
 
-/// Lists the routes, each with what is told of it.
+/// Lists the routes, each with what is reported of it.
 fn with_route_reasons(
     alloc: Global,
     version: &Version,

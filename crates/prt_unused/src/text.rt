@@ -88,7 +88,7 @@ fn push_example(out: &mut Vec<u8>, example: &Example) -> Result<(), AllocError>
     push_verdict(out, &example.verdict)
 }
 
-/// Appends what is told of a rule that decides no packet.
+/// Appends what is reported of a rule that decides no packet.
 fn push_rule_reason(out: &mut Vec<u8>, reason: &RuleReason) -> Result<(), AllocError>
     ensures { OnOk result (out.new.items ≡ out.old.items ++ rule_reason_text reason.now) }
 {
@@ -98,7 +98,7 @@ fn push_rule_reason(out: &mut Vec<u8>, reason: &RuleReason) -> Result<(), AllocE
     }
 }
 
-/// Appends what is told of a route of this table that no packet gets.
+/// Appends what is reported of a route of this table that no packet gets.
 fn push_route_reason(out: &mut Vec<u8>, table: u32, reason: &RouteReason) -> Result<(), AllocError>
     ensures { OnOk result (out.new.items ≡ out.old.items ++ route_reason_text table reason.now) }
 {
@@ -159,7 +159,7 @@ fn push_routes(out: &mut Vec<u8>, routes: &[UnusedRoute]) -> Result<(), AllocErr
     Ok(())
 }
 
-/// Appends two lines for each rule, and then for each route: the line that lists it, and after a tab what is told of it. That
+/// Appends two lines for each rule, and then for each route: the line that lists it, and after a tab what is reported of it. That
 /// is a packet that a rule matches and what becomes of it, or one of these: no packet matches the rule, no rule looks up the
 /// table of the route, the route is a throw route, or no rule that looks up its table matches a packet to it.
 ///
