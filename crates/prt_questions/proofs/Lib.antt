@@ -12,3 +12,4 @@ mod Later
 mod Submitted
 mod Told
 mod Statuses
+mod Parts

@@ -1,15 +1,18 @@
 -- What was done for a question, by the exit status.
-use Rattle.std.specs.Prelude.{◌≡◌, ℕ, List, Option}
+use Rattle.std.specs.Prelude.{◌≡◌, ◌⊎◌, ℕ, List, Option, false, true}
+use Rattle.std.specs.Io.KnownBytes.{Appends}
 use Rattle.sqlite.specs.Held.{Held}
 use Rattle.sqlite.specs.Store.{Ghosts}
 use Rattle.prt_args.specs.declared.asking.Asked.{Asked}
 use Rattle.prt_args.specs.declared.asking.Asked.TheVariants.{Apply, Assert, Diff, Follow, Impact, Import, Status, Tables, Unused, Wait}
 use Rattle.prt_args.specs.declared.fault.TheConstants.{DONE}
+use Rattle.prt_args.specs.declared.server_place.ServerPlace.TheVariants.{Folder}
 use Rattle.prt_questions.specs.Analyses.{IsAsserted, IsAssertedAtMost, IsFoundAtMost, IsFoundOf, IsRehearsed, IsRehearsedAtMost, IsSearched, IsSearchedAtMost}
-use Rattle.prt_questions.specs.Asking.{HasAnswered, HasAnsweredAtMost, HasCompared, HasComparedAtMost, HasFollowed, HasFollowedAtMost}
+use Rattle.prt_questions.specs.Asking.{HasAnswered, HasAnsweredAtMost, HasCompared, HasComparedAtMost, HasFollowed, HasFollowedAtMost, IsCutOff}
 use Rattle.prt_questions.specs.Applying.{HasApplied, HasAppliedAtMost}
 use Rattle.prt_questions.specs.Importing.{HasImported, HasImportedAtMost}
 use Rattle.prt_questions.specs.Sources.{Gives, Sources, after, path_of, rest_by}
+use Rattle.prt_questions.specs.StatusText.{is_closed, status_text}
 use Rattle.prt_questions.specs.declared.asking.TheConstants.{REFUSED}
 use Rattle.prt_questions.specs.declared.database_opener.Wanted.{Wanted}
 
@@ -25,7 +28,7 @@ module _ {M S : Type 0} (g : Ghosts S) (opens : Wanted → M → M → List ℕ 
   IsDone (Assert asserting) = IsFoundOf g opens refuses closes from old new asserting.source DONE (IsAsserted (Gives (after (rest_by asserting.source) from) (path_of asserting.file)) writer0 writer asserting DONE)
   IsDone (Unused source) = IsFoundOf g opens refuses closes from old new source DONE (IsSearched writer0 writer DONE)
   IsDone (Apply applying) = HasApplied g opens refuses closes from old new writer0 writer applying
-  IsDone (Status inspecting) = new ≡ old
+  IsDone (Status inspecting) = (new ≡ old) × ((said : List ℕ) × from.reports (Folder inspecting.folder) said × Appends writer0 writer (status_text inspecting.form said) × (is_closed said ≡ false))
 
   -- what status 1 says of a question about all packets
   abbrev pub IsFound : Asked → Type 0
@@ -33,6 +36,11 @@ module _ {M S : Type 0} (g : Ghosts S) (opens : Wanted → M → M → List ℕ 
   IsFound (Assert asserting) = IsFoundOf g opens refuses closes from old new asserting.source REFUSED (IsAsserted (Gives (after (rest_by asserting.source) from) (path_of asserting.file)) writer0 writer asserting REFUSED)
   IsFound (Unused source) = IsFoundOf g opens refuses closes from old new source REFUSED (IsSearched writer0 writer REFUSED)
   IsFound asked = Unit {0}
+
+  -- what status 4 says: a server takes no command any more, and all that it said of itself was written
+  abbrev pub IsFoundClosed : Asked → Type 0
+  IsFoundClosed (Status inspecting) = (new ≡ old) × ((said : List ℕ) × from.reports (Folder inspecting.folder) said × Appends writer0 writer (status_text inspecting.form said) × (is_closed said ≡ true))
+  IsFoundClosed asked = Unit {0}
 
   -- and what is left in any case
   abbrev pub IsDoneAtMost : Asked → Type 0
@@ -45,4 +53,4 @@ module _ {M S : Type 0} (g : Ghosts S) (opens : Wanted → M → M → List ℕ 
   IsDoneAtMost (Assert asserting) = IsFoundAtMost g opens refuses closes from old new writer0 writer asserting.source (IsAssertedAtMost (Gives (after (rest_by asserting.source) from) (path_of asserting.file)) writer0 writer asserting)
   IsDoneAtMost (Unused source) = IsFoundAtMost g opens refuses closes from old new writer0 writer source (IsSearchedAtMost writer0 writer)
   IsDoneAtMost (Apply applying) = HasAppliedAtMost g opens refuses closes from old new writer0 writer applying
-  IsDoneAtMost (Status inspecting) = new ≡ old
+  IsDoneAtMost (Status inspecting) = (new ≡ old) × ((writer ≡ writer0) ⊎ ((said : List ℕ) × from.reports (Folder inspecting.folder) said × IsCutOff (status_text inspecting.form said) writer0 writer))

@@ -9,5 +9,6 @@ pub mod Applying
 pub mod Tried
 pub mod Importing
 pub mod Sources
+pub mod StatusText
 pub mod Submitting
 pub mod Told

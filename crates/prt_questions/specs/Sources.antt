@@ -15,7 +15,7 @@ use Rattle.prt_args.specs.declared.asking.Source.{Source}
 use Rattle.prt_args.specs.declared.asking.Source.TheVariants.{Script}
 use Rattle.prt_args.specs.declared.server_place.ServerPlace.{ServerPlace}
 use Rattle.prt_questions.specs.declared.local.Socket.{Socket}
-use Rattle.prt_questions.specs.declared.local.Socket.TheVariants.{Atomic}
+use Rattle.prt_questions.specs.declared.local.Socket.TheVariants.{Atomic, Status}
 
 -- ---- files and the standard input
 
@@ -81,6 +81,10 @@ module _ {N Stream : Type 0} (reaches : N → ServerPlace → Socket → List �
 abbrev pub IsAtomicReply : {N Stream : Type 0} → (N → ServerPlace → Socket → List ℕ → Stream → Type 0) → (Stream → Option (List ℕ)) → N → ServerPlace → (sent reply : List ℕ) → Type 0
 IsAtomicReply {N} {Stream} reaches said net place sent reply = (stream : Stream) × reaches net place Atomic sent stream × IfSome (said stream) (λ all. reply ≡ all)
 
+-- all that a server at a place said of itself
+abbrev pub IsReport : {N Stream : Type 0} → (N → ServerPlace → Socket → List ℕ → Stream → Type 0) → (Stream → Option (List ℕ)) → N → ServerPlace → (text : List ℕ) → Type 0
+IsReport {N} {Stream} reaches said net place text = (stream : Stream) × reaches net place Status [] stream × IfSome (said stream) (λ all. text ≡ all)
+
 -- ---- all of them
 
 -- What a question may read.
@@ -99,9 +103,11 @@ pub record Sources : Type 1 where
   pub submits : ServerPlace → List ℕ → List ℕ → Type 0
   -- and said something at all
   pub speaks : ServerPlace → Type 0
+  -- and said this of itself
+  pub reports : ServerPlace → List ℕ → Type 0
 
 abbrev pub sources_of : {F File N Stream : Type 0} → (F → List ℕ → File → Type 0) → (File → Option (List ℕ)) → F → (N → ServerPlace → Socket → List ℕ → Stream → Type 0) → (Stream → Option (List ℕ)) → N → Option (List ℕ) → Sources
-sources_of opens bytes files reaches said net input = record { files = IsFileOf opens bytes files; input = input; tells = AreTold reaches said net; feeds = AreFed reaches said net; replies = IsReply reaches said net; submits = IsAtomicReply reaches said net; speaks = IsHeard reaches said net }
+sources_of opens bytes files reaches said net input = record { files = IsFileOf opens bytes files; input = input; tells = AreTold reaches said net; feeds = AreFed reaches said net; replies = IsReply reaches said net; submits = IsAtomicReply reaches said net; speaks = IsHeard reaches said net; reports = IsReport reaches said net }
 
 -- a text of a file, or of the input
 abbrev pub Gives : Sources → Option Word → List ℕ → Type 0

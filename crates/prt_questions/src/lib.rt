@@ -10,6 +10,7 @@ mod cause;
 mod database_opener;
 mod databases;
 mod fencing;
+mod figures;
 mod following;
 mod impact;
 mod impact_of_diff;

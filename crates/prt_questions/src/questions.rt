@@ -1,6 +1,6 @@
 //! What is asked from outside a session.
 ghost use Rattle.std.specs.Prelude.{◌≡◌, ◌⊎◌};
-ghost use Rattle.prt_questions.specs.Done.{IsDone, IsDoneAtMost, IsFound};
+ghost use Rattle.prt_questions.specs.Done.{IsDone, IsDoneAtMost, IsFound, IsFoundClosed};
 ghost use Rattle.prt_questions.specs.Sources.{sources_of};
 
 use crate::applying::apply;
@@ -43,6 +43,7 @@ pub fn answer_question<
     ensures status { (result ≡ DONE) ⊎ ((result ≡ REFUSED) ⊎ ((result ≡ UNREADABLE) ⊎ ((result ≡ CLOSED) ⊎ (result ≡ FAULT)))) }
     ensures whole { result ≡ DONE → IsDone S.Store M.opens M.refuses M.closes (sources_of F.opens F.Opened.remaining databases.old.files.now N.reaches N.Stream.remaining databases.old.rt (R.remaining input.old)) databases.old.machine databases.new.machine (W.contents output.old) (W.contents output.new) asked.now }
     ensures found { result ≡ REFUSED → IsFound S.Store M.opens M.refuses M.closes (sources_of F.opens F.Opened.remaining databases.old.files.now N.reaches N.Stream.remaining databases.old.rt (R.remaining input.old)) databases.old.machine databases.new.machine (W.contents output.old) (W.contents output.new) asked.now }
+    ensures closed { result ≡ CLOSED → IsFoundClosed S.Store M.opens M.refuses M.closes (sources_of F.opens F.Opened.remaining databases.old.files.now N.reaches N.Stream.remaining databases.old.rt (R.remaining input.old)) databases.old.machine databases.new.machine (W.contents output.old) (W.contents output.new) asked.now }
     ensures at_most { IsDoneAtMost S.Store M.opens M.refuses M.closes (sources_of F.opens F.Opened.remaining databases.old.files.now N.reaches N.Stream.remaining databases.old.rt (R.remaining input.old)) databases.old.machine databases.new.machine (W.contents output.old) (W.contents output.new) asked.now }
 {
     match asked {

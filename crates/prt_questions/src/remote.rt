@@ -2,7 +2,8 @@
 ghost use Rattle.std.specs.Prelude.{◌≡◌, ◌++◌, IfOk, IfSome, List, codes, true, ℕ};
 ghost use Rattle.std.specs.Io.Buffered.{reader_remaining};
 ghost use Rattle.std.specs.Io.KnownBytes.{Keeps};
-ghost use Rattle.prt_questions.specs.Sources.{AreTold, IsHeard};
+ghost use Rattle.prt_args.specs.declared.server_place.ServerPlace.TheVariants.{Folder};
+ghost use Rattle.prt_questions.specs.Sources.{AreTold, IsHeard, IsReport};
 ghost use Rattle.prt_questions.specs.Told.{IsFeedBefore, IsInquiry, IsQueryLine, IsReached, IsToldBy, IsToldIn};
 
 use crate::local::{LocalNet, Socket};
@@ -324,7 +325,9 @@ pub(crate) fn read_status<N: LocalNet>(
     rt: &N,
     alloc: Global,
     folder: &str,
-) -> Result<Vec<u8>, ServerError> {
+) -> Result<Vec<u8>, ServerError>
+    ensures { IfOk result (λ said. IsReport N.reaches N.Stream.remaining rt.now (Folder folder.entry) said.items) }
+{
     let place = ServerPlace::Folder(folder);
     let patience = Duration::from_secs(PATIENCE);
     let mut stream = rt.reach(alloc, &place, Socket::Status, patience, &[])?;
