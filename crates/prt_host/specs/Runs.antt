@@ -22,7 +22,7 @@ use Rattle.prt_args.specs.declared.serving.ServeArgs.{ServeArgs}
 use Rattle.prt_args.specs.declared.server_place.ServerPlace.{ServerPlace}
 use Rattle.prt_args.specs.declared.task.Mode.{Mode}
 use Rattle.prt_questions.specs.Closing.{LeavesNoneOpen}
-use Rattle.prt_questions.specs.Done.{IsDone, IsDoneAtMost, IsFound}
+use Rattle.prt_questions.specs.Done.{IsDone, IsDoneAtMost, IsFound, IsFoundClosed}
 use Rattle.prt_questions.specs.Sessions.{RunsOverMachine}
 use Rattle.prt_questions.specs.Sources.{Sources}
 use Rattle.prt_questions.specs.Submitting.{IsAllMade, IsSubmitted}
@@ -56,6 +56,7 @@ module _ {M S : Type 0} (g : Ghosts S) (opens : Wanted → M → M → List ℕ 
     pub status_is : (status ≡ DONE) ⊎ ((status ≡ REFUSED) ⊎ ((status ≡ UNREADABLE) ⊎ ((status ≡ CLOSED) ⊎ (status ≡ FAULT))))
     pub whole : status ≡ DONE → IsDone g opens refuses closes from old new writer0 writer question
     pub found : status ≡ REFUSED → IsFound g opens refuses closes from old new writer0 writer question
+    pub closed : status ≡ CLOSED → IsFoundClosed g opens refuses closes from old new writer0 writer question
     pub at_most : IsDoneAtMost g opens refuses closes from old new writer0 writer question
 
   -- What becomes of a run that is asked for, with its exit status.

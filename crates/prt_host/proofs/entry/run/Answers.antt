@@ -57,4 +57,4 @@ returns-in-Ask g c =
     (has_answered g.S.Store g.M.DatabaseOpener.opens g.M.DatabaseOpener.refuses g.M.DatabaseOpener.closes mid old new same words _ writer_mid writer0 writer said.ask.2 asked.result
     (asks_from g.S.Store g.M.DatabaseOpener.opens g.M.DatabaseOpener.refuses g.M.DatabaseOpener.closes mid new words c.args.databases.now c.program-next.new.databases all (remaining c.args.input.now.stream) (remaining c.program-next.new.input.stream) unread
     (λ databases input. sources_of g.F.ReadFiles.opens g.F.Opened.Read.remaining databases.files.now g.N.LocalNet.reaches g.N.Stream.Read.remaining databases.rt input) writer_mid writer asked.result
-    (record { question = c.in-Ask.asked; named = said.ask.1; status_is = asked.ensures.status; whole = asked.ensures.whole; found = asked.ensures.found; at_most = asked.ensures.at_most })))
+    (record { question = c.in-Ask.asked; named = said.ask.1; status_is = asked.ensures.status; whole = asked.ensures.whole; found = asked.ensures.found; closed = asked.ensures.closed; at_most = asked.ensures.at_most })))
