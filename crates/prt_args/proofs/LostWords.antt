@@ -8,7 +8,7 @@ use Rattle.clap.specs.Faults.{turn_fault, walk_fault, word_fault, step_fault, se
 use Rattle.clap.specs.Walk.{Held, Row, Rule, Text, Waiting, arg_by_long, arg_by_short, walked, word_met, settled, reacted, takes_values, attached_value, subcommand_met, idle, option as waits_for, positional}
 use Rattle.clap.specs.declared.error.kind.ErrorKind.TheVariants as kind
 use Rattle.prt_addr.specs.Word.{Word}
-use Rattle.prt_args.specs.Invocation.{Batch, DatabaseOption, ServerOption, Valued, is_delimiter, is_option, option_word, usage_error}
+use Rattle.prt_args.specs.Invocation.{Batch, DatabaseOption, ServerOption, Valued, is_delimiter, is_option, usage_error}
 use Rattle.prt_args.proofs.Walks.{Reads, word_mistaken, word_taken}
 use Rattle.prt_args.proofs.WordClasses.{Class, IsMistake, awaits_option, class_of, held_at, mistaken_or, rules_of, settles, shape_of, value_id, value_turn, walk_at, walk_when}
 use Rattle.prt_args.proofs.WordClasses as class

@@ -96,3 +96,10 @@ pub values_read : {X : Type 0} (f : Word → Option X) (given : Option (Bor (Lis
     → option_map (λ words. map (λ word. word.now) words.now) given ≡ found → map (λ word. f word.now) (unwrap_or given none).now ≡ map f (unwrap_or found [])
 values_read f None none found empty is = ap (map (λ word. f word.now)) empty ∙ ap (λ found. map f (unwrap_or found [])) is
 values_read f (Some words) none found empty is = map_now f words.now ∙ ap (λ found. map f (unwrap_or found [])) is
+
+-- what is read of all of them
+pub read_of_values : {X : Type 0} (f : Word → Option X) (given : Option (Bor (List (Bor Word)))) (none words : Bor (List (Bor Word))) (found : Option (List Word)) (read : Option (List X))
+    → read ≡ all_of (map (λ word. f word.now) words.now) → words ≡ unwrap_or given none → none.now ≡ [] → option_map (λ words. map (λ word. word.now) words.now) given ≡ found
+    → read ≡ all_of (map f (unwrap_or found []))
+read_of_values f given none words found read is own empty has =
+    is ∙ ap (λ (words : Bor (List (Bor Word))). all_of (map (λ word. f word.now) words.now)) own ∙ ap all_of (values_read f given none found empty has)

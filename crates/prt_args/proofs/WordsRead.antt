@@ -18,11 +18,14 @@ use Rattle.clap.specs.Words.{Text, kind_of}
 use Rattle.clap.specs.declared.error.Error.{Error}
 use Rattle.clap.specs.declared.error.kind.ErrorKind.{ErrorKind}
 use Rattle.clap.specs.declared.error.kind.ErrorKind.TheVariants.{DisplayHelp, DisplayVersion, InvalidSubcommand}
-use Rattle.prt_args.specs.Faults.{FaultOf, IsHelpOrBad, IsStatusOf, IsWordsFault, words_status}
+use Rattle.prt_args.specs.Faults.{FaultOf, IsHelpOrBad, IsStatusOf, IsWordsFault, ParseEnds, words_status}
 use Rattle.prt_args.specs.Invocation.{Invocation, anywhere, ask, asked_by, batch, check, replay, serve, submit, Submission, has_help, help, help_on, nothing_given, version, invocation, is_help, is_question, is_version, usage_error, file_of}
 use Rattle.prt_args.specs.Invocation as subcommand
 use Rattle.prt_args.specs.Places.{names_place}
-use Rattle.prt_args.specs.Read.{IsFoundIn, IsReadFrom}
+use Rattle.prt_args.specs.Asking.{name_of_word}
+use Rattle.prt_args.specs.NoQuestion.{IsNoQuestion}
+use Rattle.prt_args.specs.Read.{IsFoundIn, IsReadFrom, ServesNothing}
+use Rattle.prt_args.specs.declared.asking.QuestionWord.{QuestionWord}
 use Rattle.prt_refusals.specs.declared.refusal.Refusal.TheVariants.{NoMemory}
 use Rattle.prt_args.specs.declared.task.Mode.{Mode}
 use Rattle.prt_args.specs.declared.task.Mode.TheVariants.{InTurn, Together}
@@ -261,50 +264,52 @@ either_status DisplayVersion = inl refl
 either_status _ = inr refl
 
 -- it is a request for help only if some word asks for it
-help_status : (own : List Word) (kinds : Kinds) (k : ErrorKind) → (has_help own ≡ false → AreBad kinds) → IsAmong k kinds → IsHelpOrBad own (words_status k)
-help_status own kinds k bad among = go (has_help own) refl
+help_status : (own : List Word) (kinds : Kinds) (k : ErrorKind) → (has_help own ≡ false → AreBad kinds) → IsAmong k kinds → ParseEnds own (words_status k) → IsHelpOrBad own (words_status k)
+help_status own kinds k bad among ends = go (has_help own) refl
   where
     helped : has_help own ≡ true → (words_status k ≡ 0) ⊎ (words_status k ≡ 2) → IsHelpOrBad own (words_status k)
-    helped e (inl zero) = inl (e, zero)
-    helped e (inr two) = inr two
+    helped e (inl zero) = inl (e, subst (ParseEnds own) zero ends, zero)
+    helped e (inr two) = inr (inl (subst (ParseEnds own) two ends), two)
 
     go : (has : Bool) → has_help own ≡ has → IsHelpOrBad own (words_status k)
     go true e = helped e (either_status k)
-    go false e = inr (mistakes_status kinds k (bad e) among)
+    go false e = let two = mistakes_status kinds k (bad e) among in inr (inl (subst (ParseEnds own) two ends), two)
 
-status_of_kind : (asked : Invocation) (kinds : Kinds) (found : Option (Text × List Row)) (k : ErrorKind) → Agrees asked kinds found → IsAmong k kinds → IsStatusOf asked (words_status k)
-status_of_kind (batch script) kinds found k agrees among = subst (IsAmong k) agrees.0 among
-status_of_kind (submit script) kinds found k agrees among = absurd (subst (IsAmong k) agrees.0 among)
-status_of_kind (check file) kinds found k agrees among = subst (IsAmong k) agrees.0 among
-status_of_kind (replay file) kinds found k agrees among = subst (IsAmong k) agrees.0 among
-status_of_kind (serve own) kinds found k agrees among = help_status own kinds k agrees.1 among
-status_of_kind (ask own) kinds found k agrees among = help_status own kinds k agrees.1 among
-status_of_kind help kinds found k agrees among = shown (subst (IsAmong k) agrees among)
+status_of_kind : (words : List Word) (asked : Invocation) (kinds : Kinds) (found : Option (Text × List Row)) (k : ErrorKind) → HasOwn asked words → Agrees asked kinds found → IsAmong k kinds
+    → ParseEnds words (words_status k) → IsStatusOf asked (words_status k)
+status_of_kind words (batch script) kinds found k own agrees among ends = subst (IsAmong k) agrees.0 among
+status_of_kind words (submit script) kinds found k own agrees among ends = absurd (subst (IsAmong k) agrees.0 among)
+status_of_kind words (check file) kinds found k own agrees among ends = subst (IsAmong k) agrees.0 among
+status_of_kind words (replay file) kinds found k own agrees among ends = subst (IsAmong k) agrees.0 among
+status_of_kind words (serve own) kinds found k same agrees among ends = help_status own kinds k agrees.1 among (subst (λ words. ParseEnds words (words_status k)) (sym same) ends)
+status_of_kind words (ask own) kinds found k same agrees among ends = help_status own kinds k agrees.1 among (subst (λ words. ParseEnds words (words_status k)) (sym same) ends)
+status_of_kind words help kinds found k own agrees among ends = shown (subst (IsAmong k) agrees among)
   where
     shown : IsAmong k (DisplayHelp ∷ []) → words_status k ≡ 0
     shown (inl is) = ap words_status is
     shown (inr none) = absurd none
-status_of_kind version kinds found k agrees among = shown (subst (IsAmong k) agrees among)
+status_of_kind words version kinds found k own agrees among ends = shown (subst (IsAmong k) agrees among)
   where
     shown : IsAmong k (DisplayVersion ∷ []) → words_status k ≡ 0
     shown (inl is) = ap words_status is
     shown (inr none) = absurd none
-status_of_kind help_on kinds found k agrees among = shown (subst (IsAmong k) agrees among)
+status_of_kind words help_on kinds found k own agrees among ends = shown (subst (IsAmong k) agrees among)
   where
     shown : IsAmong k (DisplayHelp ∷ InvalidSubcommand ∷ []) → IsStatusOf help_on (words_status k)
     shown (inl is) = inl (ap words_status is)
     shown (inr (inl is)) = inr (ap words_status is)
     shown (inr (inr none)) = absurd none
-status_of_kind usage_error [] found k (inl mistake) among = absurd mistake
-status_of_kind usage_error (x ∷ kinds) found k (inl mistake) among = mistakes_status (x ∷ kinds) k mistake among
-status_of_kind usage_error kinds found k (inr conflict) among = absurd (subst (IsAmong k) conflict.0 among)
+status_of_kind words usage_error [] found k own (inl mistake) among ends = absurd mistake
+status_of_kind words usage_error (x ∷ kinds) found k own (inl mistake) among ends = mistakes_status (x ∷ kinds) k mistake among
+status_of_kind words usage_error kinds found k own (inr conflict) among ends = absurd (subst (IsAmong k) conflict.0 among)
 
 -- a parse with an error found no script, or memory was refused
-pub words_fault : (asked : Invocation) (kinds : Kinds) (found : Option (Text × List Row)) (error : Error) (fault : Fault) → Agrees asked kinds found → HasKind kinds error → FaultOf error fault
-    → IsWordsFault asked fault
-words_fault asked kinds found error fault agrees has (inl memory) = rw memory.1 refl
-words_fault asked kinds found error fault agrees (inl memory) (inr other) = absurd (other.0 memory)
-words_fault asked kinds found error fault agrees (inr among) (inr other) = rw other.1 (status_of_kind asked kinds found (kind_of error) agrees among)
+pub words_fault : (words : List Text) (error : Error) (fault : Fault) → HasKind (fault_of command_line words) error → FaultOf error fault → IsWordsFault (invocation (drop 1 words)) fault
+words_fault words error fault has (inl memory) = rw memory.1 refl
+words_fault words error fault (inl memory) (inr other) = absurd (other.0 memory)
+words_fault words error fault (inr among) (inr other) =
+    rw other.1 (status_of_kind (drop 1 words) (invocation (drop 1 words)) (fault_of command_line words) (subcommand_of command_line words) (kind_of error) (has_own (drop 1 words)) (words_agree words) among
+    (kind_of error, among, refl))
 
 -- ---- what the matches say
 
@@ -423,11 +428,19 @@ conflicting_is words m found none other no_ask is =
     (λ named. other (name_of_found (out-ArgMatches m).subcommand ∙ ap subcommand_name found ∙ named))
     (ap asks_question (sym (ap subcommand_name found) ∙ sym (name_of_found (out-ArgMatches m).subcommand)) ∙ no_ask) (subst IsConflict found is)
 
--- bad words, or that memory was refused, is a fault of `serve` and of a question
-pub bad_words : (own : List Word) (fault : Fault) → IsWordsFault usage_error fault → IsWordsFault (serve own) fault × IsWordsFault (ask own) fault
-bad_words own (Words error) is = (inr is, inr is)
-bad_words own (Opening reason) is = (is, is)
-bad_words own Listener is = absurd is
+-- if nothing can be served or asked by the words, bad words are their fault; or that memory was refused
+pub refused_service : (words : List Word) (fault : Fault) → ServesNothing words → IsWordsFault usage_error fault → IsWordsFault (serve words) fault
+refused_service words (Words error) nothing is = inr (inr (inl nothing), is)
+refused_service words (Opening reason) nothing is = is
+refused_service words Listener nothing is = absurd is
+
+pub refused_question : (words : List Text) (m : ArgMatches) (fault : Fault) → subcommand_rows_of m ≡ subcommand_of command_line words
+    → (fault ≡ Opening NoMemory) ⊎ ((word : QuestionWord) × (found : ArgMatches) × (subcommand_rows_of m ≡ Some (name_of_word word, rows_of (found_of found))) × IsNoQuestion word found)
+    → IsWordsFault usage_error fault → IsWordsFault (ask (drop 1 words)) fault
+refused_question words m (Words error) found (inl memory) is = absurd cc
+refused_question words m (Words error) found (inr (word, matches, rows, nothing)) is = inr (inr (inr (word, matches, found_in words m (name_of_word word) matches found rows, nothing)), is)
+refused_question words m (Opening reason) found why is = is
+refused_question words m Listener found why is = absurd is
 
 refused_words : (script : Submission) (fault : Fault) → names_place script.server ≡ false → IsWordsFault usage_error fault → IsWordsFault (submit script) fault
 refused_words script (Words error) nowhere is = (is, nowhere)

@@ -1,13 +1,15 @@
 -- The exit status if nothing is run.
-use Rattle.std.specs.Prelude.{◌≡◌, ◌≢◌, ◌⊎◌, ℕ, List, true, false}
-use Rattle.clap.specs.Words.{kind_of}
+use Rattle.std.specs.Prelude.{◌≡◌, ◌≢◌, ◌⊎◌, ℕ, List, ◌∷◌, codes, true, false}
+use Rattle.clap.specs.Words.{IsAmong, fault_of, kind_of}
 use Rattle.clap.specs.declared.error.Error.{Error}
 use Rattle.clap.specs.declared.error.kind.ErrorKind.{ErrorKind}
 use Rattle.clap.specs.declared.error.kind.ErrorKind.TheVariants.{DisplayHelp, DisplayVersion, OutOfMemory}
 use Rattle.prt_addr.specs.Word.{Word}
 use Rattle.prt_refusals.specs.declared.refusal.Refusal.TheVariants.{NoMemory}
+use Rattle.prt_args.specs.CommandLine.{command_line}
 use Rattle.prt_args.specs.Invocation.{Invocation, ask, batch, check, has_help, replay, serve, submit, help, help_on, version, usage_error}
 use Rattle.prt_args.specs.Places.{names_place}
+use Rattle.prt_args.specs.Read.{AsksNothing, ServesNothing}
 use Rattle.prt_args.specs.declared.fault.Fault.{Fault}
 use Rattle.prt_args.specs.declared.fault.Fault.TheVariants.{Words, Opening, Listener}
 
@@ -27,9 +29,17 @@ fault_status (Words error) = words_status (kind_of error)
 fault_status (Opening reason) = 3
 fault_status Listener = 3
 
--- 0 only if some word asks for help
+-- a parse of the words ends with this status: it finds that help or the version is asked for, or a mistake
+abbrev pub ParseEnds : List Word → ℕ → Type 0
+ParseEnds words status = (kind : ErrorKind) × IsAmong kind (fault_of command_line (codes "prt" ∷ words)) × (words_status kind ≡ status)
+
+-- a parse finds a mistake in the words, or nothing can be served or asked by what it finds
+abbrev pub AreBadWords : List Word → Type 0
+AreBadWords words = ParseEnds words 2 ⊎ (ServesNothing words ⊎ AsksNothing words)
+
+-- 0 only if some word asks for help and a parse finds it, and 2 only if the words are bad
 abbrev pub IsHelpOrBad : List Word → ℕ → Type 0
-IsHelpOrBad words status = ((has_help words ≡ true) × (status ≡ 0)) ⊎ (status ≡ 2)
+IsHelpOrBad words status = ((has_help words ≡ true) × ParseEnds words 0 × (status ≡ 0)) ⊎ (AreBadWords words × (status ≡ 2))
 
 -- the status of words that ask for no run
 abbrev pub IsStatusOf : Invocation → ℕ → Type 0

@@ -3,6 +3,7 @@ pub mod Asking
 pub mod CommandLine
 pub mod Faults
 pub mod Invocation
+pub mod NoQuestion
 pub mod Places
 pub mod Reaching
 pub mod Read

@@ -5,9 +5,10 @@ use Rattle.clap.specs.declared.parser.matches.ArgMatches.{ArgMatches}
 use Rattle.prt_addr.specs.Word.{Word}
 use Rattle.prt_refusals.specs.declared.refusal.Refusal.TheVariants.{NoMemory}
 use Rattle.prt_args.specs.Analysis.{AreNamed, IsFlag, IsNamed, IsNoPlaceBy, IsPlaceBy, IsServerBy, IsSearched, IsShownBy, NoneIsNamed, exactness_of, form_of, on_refusal_of, value_of}
-use Rattle.prt_args.specs.Asking.{name_of_asked}
+use Rattle.prt_args.specs.Asking.{name_of_asked, name_of_word}
 use Rattle.prt_args.specs.CommandLine.{command_line}
 use Rattle.prt_args.specs.Invocation.{file_of, invocation, serve}
+use Rattle.prt_args.specs.NoQuestion.{IsNoQuestion}
 use Rattle.prt_args.specs.Places.{number_within}
 use Rattle.prt_args.specs.Reaching.{IsReachBy, values_of}
 use Rattle.prt_args.specs.Services.{IsStatusFormBy, IsTarget}
@@ -16,6 +17,7 @@ use Rattle.prt_args.specs.declared.asking.Asked.TheVariants as asked
 use Rattle.prt_args.specs.declared.asking.QueryArgs.{QueryArgs}
 use Rattle.prt_args.specs.declared.asking.Labels.{Labels}
 use Rattle.prt_args.specs.declared.asking.Labels.TheVariants as labels
+use Rattle.prt_args.specs.declared.asking.QuestionWord.{QuestionWord}
 use Rattle.prt_args.specs.declared.asking.Source.{Source}
 use Rattle.prt_args.specs.declared.asking.Source.TheVariants.{Script}
 use Rattle.prt_args.specs.declared.asking.Verb.{Verb}
@@ -147,6 +149,14 @@ abbrev pub IsReadFrom : List Word → Task → Type 0
 IsReadFrom words (task.Serve serving) = IsServiceIn words serving
 IsReadFrom words (task.Ask asked) = IsQuestionIn words asked
 IsReadFrom words _ = Unit {0}
+
+-- nothing can be served by what a parse finds of the words
+abbrev pub ServesNothing : List Word → Type 0
+ServesNothing words = (matches : ArgMatches) × IsFoundIn words (codes "serve") matches × IsNoService matches
+
+-- nothing can be asked by what a parse finds of them
+abbrev pub AsksNothing : List Word → Type 0
+AsksNothing words = (word : QuestionWord) × (matches : ArgMatches) × IsFoundIn words (name_of_word word) matches × IsNoQuestion word matches
 
 -- if a parse takes the words of `serve`, they are refused only if nothing can be served by them, or for want of memory
 abbrev pub IsServiceRefused : List Word → Fault → Type 0

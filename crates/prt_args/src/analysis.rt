@@ -1,7 +1,8 @@
 //! What the words of `impact`, `assert` and `unused` ask for: which tables are analysed, and which file is read beside them.
-ghost use Rattle.std.specs.Prelude.{◌≡◌, ◌||◌, IfOk, codes, is_some, option_map, true};
-ghost use Rattle.prt_args.specs.Analysis.{AreNamed, IsFlag, IsSearched, exactness_of, form_of, on_refusal_of};
+ghost use Rattle.std.specs.Prelude.{◌≡◌, ◌⊎◌, ◌||◌, IfErr, IfOk, None, codes, is_some, option_map, true};
+ghost use Rattle.prt_args.specs.Analysis.{AreNamed, IsFlag, IsMisnamed, IsSearched, exactness_of, form_of, on_refusal_of};
 ghost use Rattle.prt_args.specs.Invocation.{file_of};
+ghost use Rattle.prt_args.specs.NoQuestion.{HasNoFile, HasScriptToo};
 
 use crate::asking::{Form, Source, form_in, named_source};
 use crate::fault::BadQuestion;
@@ -72,6 +73,7 @@ fn two_paths<'a>(
 ) -> Result<(Option<&'a str>, Option<&'a str>), BadQuestion>
     ensures paths { IfOk result (λ paths. (option_map (λ path. path.now) paths.0 ≡ file_of script.entry.now) × (option_map (λ path. path.now) paths.1 ≡ file_of file.entry.now)) }
     ensures one_input { IfOk result (λ paths. (is_some paths.0 || is_some paths.1) ≡ true) }
+    ensures refused { IfErr result (λ bad. (file_of script.entry.now ≡ None) × (file_of file.entry.now ≡ None)) }
 {
     let script = file_of(script);
     let file = file_of(file);
@@ -89,7 +91,8 @@ fn two_paths<'a>(
 fn source_and_file<'a>(
     matches: &ArgMatches<'a>,
 ) -> Result<(Source<'a>, Option<&'a str>), BadQuestion>
-    ensures { IfOk result (λ named. AreNamed matches.now named.0 (option_map (λ path. path.now) named.1)) }
+    ensures named { IfOk result (λ named. AreNamed matches.now named.0 (option_map (λ path. path.now) named.1)) }
+    ensures refused { IfErr result (λ bad. IsMisnamed matches.now ⊎ HasNoFile matches.now) }
 {
     let files = matches.get_strs("words").unwrap_or(&[]);
     match (named_source(matches)?, files) {
@@ -115,6 +118,7 @@ pub(crate) fn impact_args_of<'a>(matches: &ArgMatches<'a>) -> Result<ImpactArgs<
     ensures exactness { IfOk result (λ rehearsing. IsFlag matches.now (codes "exact") exactness_of rehearsing.exactness) }
     ensures form { IfOk result (λ rehearsing. IsFlag matches.now (codes "json") form_of rehearsing.form) }
     ensures on_refusal { IfOk result (λ rehearsing. IsFlag matches.now (codes "force") on_refusal_of rehearsing.on_refusal) }
+    ensures refused { IfErr result (λ bad. IsMisnamed matches.now ⊎ HasNoFile matches.now) }
 {
     let (source, file) = source_and_file(matches)?;
     let exactness = if matches.get_flag("exact") {
@@ -144,6 +148,7 @@ pub(crate) fn impact_args_of<'a>(matches: &ArgMatches<'a>) -> Result<ImpactArgs<
 pub(crate) fn assert_args_of<'a>(matches: &ArgMatches<'a>) -> Result<AssertArgs<'a>, BadQuestion>
     ensures named { IfOk result (λ asserting. AreNamed matches.now asserting.source (option_map (λ path. path.now) asserting.file)) }
     ensures explained { IfOk result (λ asserting. IsFlag matches.now (codes "explain") (λ given. given) asserting.is_explained) }
+    ensures refused { IfErr result (λ bad. IsMisnamed matches.now ⊎ HasNoFile matches.now) }
 {
     let (source, file) = source_and_file(matches)?;
     Ok(AssertArgs {
@@ -159,7 +164,8 @@ pub(crate) fn assert_args_of<'a>(matches: &ArgMatches<'a>) -> Result<AssertArgs<
 ///
 /// They name two, a place that is none, or a script beside other tables.
 pub(crate) fn searched_of<'a>(matches: &ArgMatches<'a>) -> Result<Source<'a>, BadQuestion>
-    ensures { IfOk result (IsSearched matches.now) }
+    ensures searched { IfOk result (IsSearched matches.now) }
+    ensures refused { IfErr result (λ bad. IsMisnamed matches.now ⊎ HasScriptToo matches.now) }
 {
     match (named_source(matches)?, matches.get_str("file")) {
         (None, _) => Ok(Source::Script(file_in(matches))),

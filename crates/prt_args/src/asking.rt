@@ -1,15 +1,19 @@
 //! What the words of a question ask for: those of `get`, `show`, `explain`, `dump`, `diff`, `follow`, `wait`, `import`,
 //! `impact`, `assert`, `unused`, `apply` and `status`.
-ghost use Rattle.std.specs.Prelude.{◌≡◌, ◌||◌, ◌++◌, IfErr, IfOk, IfSome, MatchOption, None, Some, codes, is_some, map, option_map, true};
+ghost use Rattle.std.specs.Prelude.{◌≡◌, ◌⊎◌, ◌||◌, ◌++◌, IfErr, IfOk, IfSome, MatchOption, None, Some, codes, is_some, map, option_map, true};
 ghost use Rattle.clap.specs.Words.{found_of, rows_of, subcommand_name_of, subcommand_rows_of};
 ghost use Rattle.clap.specs.declared.parser.matches.ArgMatches.{ArgMatches};
 ghost use Rattle.prt_args.specs.Analysis.{IsFlag, IsMisnamed, IsNamed, IsShownBy, NoneIsNamed, form_of};
 ghost use Rattle.prt_args.specs.Asking.{name_of_asked, name_of_verb, name_of_word};
 ghost use Rattle.prt_args.specs.Tasks.{asks_question};
+ghost use Rattle.prt_args.specs.NoQuestion.{HasNoTables, IsNoQuery, IsNoQuestion, IsNoReach, IsNoVerb, NamesNoTables, OrNoMemory, needs_words};
 ghost use Rattle.prt_args.specs.Faults.{IsWordsFault};
 ghost use Rattle.prt_args.specs.Invocation.{is_analysis, is_service, usage_error};
 ghost use Rattle.prt_args.specs.Read.{IsAskedBy, IsAskingBy, IsFileBy, IsSourceBy, IsVerbBy, labels_of, line_of, spaced};
 ghost use Rattle.prt_args.specs.Reaching.{IsAsked, IsReach, IsReachBy};
+ghost use Rattle.prt_args.specs.declared.asking.QuestionWord.{QuestionWord};
+ghost use Rattle.prt_args.specs.declared.fault.Fault.TheVariants.{Opening};
+ghost use Rattle.prt_refusals.specs.declared.refusal.Refusal.TheVariants.{NoMemory};
 
 use crate::analysis::{AssertArgs, ImpactArgs, assert_args_of, impact_args_of, searched_of};
 use crate::fault::{BadQuestion, Fault, asking_fault};
@@ -312,7 +316,8 @@ pub(crate) fn named_source<'a>(matches: &ArgMatches<'a>) -> Result<Option<Source
 ///
 /// They name none or two, or a place that is none.
 fn source_in<'a>(matches: &ArgMatches<'a>) -> Result<Source<'a>, BadQuestion>
-    ensures { IfOk result (IsNamed matches.now) }
+    ensures named { IfOk result (IsNamed matches.now) }
+    ensures refused { IfErr result (λ bad. NamesNoTables matches.now) }
 {
     match named_source(matches)? {
         Some(source) => Ok(source),
@@ -331,7 +336,8 @@ fn source_and_words<'b, 'a>(
     matches: &ArgMatches<'a>,
     words: &'b [&'a str],
 ) -> Result<(Source<'a>, &'b [&'a str]), BadQuestion>
-    ensures { IfOk result (λ named. IsSourceBy matches.now (map (λ word. word.now) words.now) named.0 (map (λ word. word.now) named.1.now)) }
+    ensures named { IfOk result (λ named. IsSourceBy matches.now (map (λ word. word.now) words.now) named.0 (map (λ word. word.now) named.1.now)) }
+    ensures refused { IfErr result (λ bad. HasNoTables verb matches.now (map (λ word. word.now) words.now)) }
 {
     match (named_source(matches)?, verb, words.split_first()) {
         (Some(source), _, _) => Ok((source, words)),
@@ -342,7 +348,9 @@ fn source_and_words<'b, 'a>(
 }
 
 /// Returns whether a question needs words that say of what it is.
-fn needs_words(verb: Verb) -> bool {
+fn needs_words(verb: Verb) -> bool
+    ensures { result ≡ needs_words verb }
+{
     matches!(verb, Verb::Get | Verb::Explain)
 }
 
@@ -354,6 +362,7 @@ fn needs_words(verb: Verb) -> bool {
 fn verb_in(verb: Verb, matches: &ArgMatches<'_>) -> Result<Verb, BadQuestion>
     ensures name { IfOk result (λ meant. name_of_verb meant ≡ name_of_verb verb) }
     ensures replaces { IfOk result (IsVerbBy matches.now) }
+    ensures refused { IfErr result (λ bad. IsNoVerb verb matches.now) }
 {
     let is_dump = matches!(verb, Verb::Dump | Verb::Replace);
     if !is_dump {
@@ -402,6 +411,7 @@ fn query_args_of<'a>(
 ) -> Result<QueryArgs<'a>, BadQuestion>
     ensures name { IfOk result (λ asking. name_of_verb asking.verb ≡ name_of_verb verb) }
     ensures reads { IfOk result (IsAskingBy matches.now) }
+    ensures refused { IfErr result (OrNoMemory (IsNoQuery verb matches.now)) }
 {
     let given = matches.get_strs("words").unwrap_or(&[]);
     let (source, words) = source_and_words(verb, matches, given)?;
@@ -447,6 +457,7 @@ fn diff_args_of<'a>(alloc: Global, matches: &ArgMatches<'a>) -> Result<DiffArgs<
     ensures reach { IfOk result (λ diffing. IsReachBy matches.now diffing.reach) }
     ensures file { IfOk result (λ diffing. IsFileBy matches.now (option_map (λ path. path.now) diffing.file)) }
     ensures shown { IfOk result (λ diffing. IsShownBy matches.now (Some diffing.shown)) }
+    ensures refused { IfErr result (OrNoMemory (IsNoQuestion QuestionWord.Diff matches.now)) }
 {
     let source = source_in(matches)?;
     let reach = reach_of(alloc, matches)?;
@@ -472,6 +483,7 @@ fn asked_of<'a>(
     ensures limits { IfOk result IsAsked }
     ensures word { IfOk result (λ asked. name_of_asked asked ≡ name_of_word word) }
     ensures reads { IfOk result (IsAskedBy matches.now) }
+    ensures refused { IfErr result (OrNoMemory (IsNoQuestion word matches.now)) }
 {
     match word {
         QuestionWord::Tables(verb) => query_args_of(alloc, verb, matches).map(Asked::Tables),
@@ -503,6 +515,7 @@ fn asked_by<'a>(
     ensures limits { IfOk result IsAsked }
     ensures word { IfOk result (λ asked. name_of_asked asked ≡ name_of_word word) }
     ensures reads { IfOk result (IsAskedBy matches.now) }
+    ensures refused { IfErr result (λ fault. (fault ≡ Opening NoMemory) ⊎ IsNoQuestion word matches.now) }
     ensures fault { IfErr result (IsWordsFault usage_error) }
 {
     match asked_of(alloc, word, matches) {
@@ -526,6 +539,7 @@ pub(crate) fn asked_in<'a>(
     ensures word { IfOk result (λ asked. IfSome asked (λ asked. subcommand_name_of matches.now ≡ Some (name_of_asked asked))) }
     ensures reads { IfOk result (λ asked. IfSome asked (λ asked. (found : ArgMatches) × (subcommand_rows_of matches.now ≡ Some (name_of_asked asked, rows_of (found_of found))) × IsAskedBy found asked)) }
     ensures limits { IfOk result (λ asked. IfSome asked IsAsked) }
+    ensures refused { IfErr result (λ fault. (fault ≡ Opening NoMemory) ⊎ ((word : QuestionWord) × (found : ArgMatches) × (subcommand_rows_of matches.now ≡ Some (name_of_word word, rows_of (found_of found))) × IsNoQuestion word found)) }
     ensures fault { IfErr result (λ fault. (asks_question (subcommand_name_of matches.now) ≡ true) × IsWordsFault usage_error fault) }
 {
     let Some((name, found)) = matches.subcommand() else {

@@ -4,6 +4,7 @@ ghost use Rattle.clap.specs.Words.{kind_of};
 ghost use Rattle.prt_refusals.specs.declared.refusal.Refusal.TheVariants.{NoMemory};
 ghost use Rattle.prt_args.specs.Faults.{FaultOf, IsWordsFault, fault_status};
 ghost use Rattle.prt_args.specs.Invocation.{usage_error};
+ghost use Rattle.prt_args.specs.declared.fault.BadQuestion.TheVariants as bad_question;
 ghost use Rattle.prt_args.specs.declared.fault.Fault.TheVariants.{Opening};
 
 use crate::analysis_lines::{assert_line, impact_line, unused_line};
@@ -153,6 +154,8 @@ pub(crate) enum BadQuestion {
 }
 
 impl From<AllocError> for BadQuestion {
+    ghost from_gives = { λ _ bad. bad ≡ bad_question.NoMemory };
+
     fn from(_: AllocError) -> BadQuestion {
         BadQuestion::NoMemory
     }

@@ -1,7 +1,8 @@
 //! What the words of `follow` and `wait` ask for: what brings the kernel to the tables of a server, and the server itself.
-ghost use Rattle.std.specs.Prelude.{◌≡◌, ◌≢◌, ◌≤◌, IfErr, IfOk, codes, option_and_then, option_map, true};
+ghost use Rattle.std.specs.Prelude.{◌≡◌, ◌⊎◌, ◌≤◌, IfErr, IfOk, codes, option_and_then, option_map};
 ghost use Rattle.prt_args.specs.Analysis.{IsFlag, IsServerBy, value_of};
-ghost use Rattle.prt_args.specs.Places.{names_place, number_within};
+ghost use Rattle.prt_args.specs.NoQuestion.{IsNoReach, IsNoServer, OrNoMemory};
+ghost use Rattle.prt_args.specs.Places.{number_within};
 ghost use Rattle.prt_args.specs.Read.{IsFileBy};
 ghost use Rattle.prt_args.specs.Reaching.{IsReach, IsReachBy};
 
@@ -49,7 +50,7 @@ pub struct WaitArgs<'a> {
 /// It is none.
 pub(crate) fn server_in<'a>(matches: &ArgMatches<'a>) -> Result<ServerPlace<'a>, BadQuestion>
     ensures server { IfOk result (IsServerBy matches.now) }
-    ensures refused { IfErr result (λ bad. option_map names_place (value_of matches.now (codes "server")) ≢ Some true) }
+    ensures refused { IfErr result (λ bad. IsNoServer matches.now) }
 {
     let Some(word) = matches.get_str("server") else {
         return Err(BadQuestion::Words(BAD_SERVER));
@@ -74,6 +75,7 @@ pub(crate) fn follow_args_of<'a>(
     ensures reach { IfOk result (λ following. IsReachBy matches.now following.reach) }
     ensures file { IfOk result (λ following. IsFileBy matches.now (option_map (λ path. path.now) following.file)) }
     ensures once { IfOk result (λ following. IsFlag matches.now (codes "once") (λ given. given) following.is_once) }
+    ensures refused { IfErr result (OrNoMemory (IsNoServer matches.now ⊎ IsNoReach matches.now)) }
 {
     let server = server_in(matches)?;
     let reach = reach_of(alloc, matches)?;
@@ -94,6 +96,7 @@ pub(crate) fn wait_args_of<'a>(matches: &ArgMatches<'a>) -> Result<WaitArgs<'a>,
     ensures limits { IfOk result (λ waiting. waiting.seconds ≤ 1000000) }
     ensures server { IfOk result (λ waiting. IsServerBy matches.now waiting.server) }
     ensures seconds { IfOk result (λ waiting. option_and_then (number_within 0 1000000) (value_of matches.now (codes "seconds")) ≡ Some waiting.seconds) }
+    ensures refused { IfErr result (λ bad. IsNoServer matches.now ⊎ (option_and_then (number_within 0 1000000) (value_of matches.now (codes "seconds")) ≡ None)) }
 {
     let server = server_in(matches)?;
     let Some(seconds) = number_in(matches, "seconds", 0, 1_000_000) else {

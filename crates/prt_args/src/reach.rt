@@ -1,8 +1,9 @@
 //! How far the words of `diff` and `follow` reach: which of the kernel's rules and routes may be compared and changed.
-ghost use Rattle.std.specs.Prelude.{◌≡◌, IfOk, map, option_map};
+ghost use Rattle.std.specs.Prelude.{◌≡◌, IfErr, IfOk, map, option_map};
 ghost use Rattle.std.specs.List.{before_first};
 ghost use Rattle.prt_addr.specs.Word.{all_of};
 ghost use Rattle.prt_route.specs.Names.{protocol};
+ghost use Rattle.prt_args.specs.NoQuestion.{IsNoReach, OrNoMemory};
 ghost use Rattle.prt_args.specs.Reaching.{IsReach, IsReachBy, end_of, is_hyphen, last_end, names_nothing, span_of};
 
 use crate::fault::BadQuestion;
@@ -143,6 +144,7 @@ fn read_protocols(alloc: Global, words: &[&str]) -> Result<Option<Vec<u8>>, Allo
 pub(crate) fn reach_of(alloc: Global, matches: &ArgMatches<'_>) -> Result<Reach, BadQuestion>
     ensures reads { IfOk result (IsReachBy matches.now) }
     ensures limits { IfOk result IsReach }
+    ensures refused { IfErr result (OrNoMemory (IsNoReach matches.now)) }
 {
     let tables = matches.get_strs("table").unwrap_or(&[]);
     let Some(tables) = read_spans(alloc, Ends::Tables, tables)? else {

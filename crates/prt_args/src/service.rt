@@ -1,6 +1,7 @@
 //! What the words of `apply` and `status` ask for: which tables are made, and how a server does.
-ghost use Rattle.std.specs.Prelude.{IfErr, IfOk, None, Some, codes, option_map};
+ghost use Rattle.std.specs.Prelude.{◌⊎◌, Bool, IfErr, IfOk, None, Some, codes, option_map};
 ghost use Rattle.prt_args.specs.Analysis.{IsFlag, IsServerBy};
+ghost use Rattle.prt_args.specs.NoQuestion.{IsNoAtomic, IsNoFolder, IsNoTarget};
 ghost use Rattle.prt_args.specs.Read.{IsFileBy};
 ghost use Rattle.prt_args.specs.Services.{IsAtomicBy, IsStatusFormBy, IsTarget};
 ghost use Rattle.prt_args.specs.declared.server_place.ServerPlace.TheVariants.{Folder};
@@ -91,7 +92,8 @@ fn atomic_in<'a>(
     feed: ServerPlace<'a>,
     is_dry_run: bool,
 ) -> Result<Option<ServerPlace<'a>>, BadQuestion>
-    ensures { IfOk result (IsAtomicBy matches.now feed.entry) }
+    ensures atomic { IfOk result (IsAtomicBy matches.now feed.entry) }
+    ensures refused { IfErr result (λ bad. IsNoAtomic matches.now feed.entry is_dry_run) }
 {
     match (feed, matches.get_str("atomic")) {
         (ServerPlace::Folder(_), None) => Ok(Some(feed)),
@@ -111,7 +113,8 @@ fn atomic_in<'a>(
 ///
 /// They aren't named, or are named by two; or a place is none, isn't needed or is missing.
 fn target_in<'a>(matches: &ArgMatches<'a>, is_dry_run: bool) -> Result<Target<'a>, BadQuestion>
-    ensures { IfOk result (IsTarget matches.now) }
+    ensures target { IfOk result (IsTarget matches.now) }
+    ensures refused { IfErr result (λ bad. IsNoTarget matches.now is_dry_run) }
 {
     match (named_source(matches)?, matches.get_str("atomic")) {
         (Some(Source::Database(path)), None) => Ok(Target::Database(path)),
@@ -134,6 +137,7 @@ pub(crate) fn apply_args_of<'a>(matches: &ArgMatches<'a>) -> Result<ApplyArgs<'a
     ensures file { IfOk result (λ applying. IsFileBy matches.now (option_map (λ path. path.now) applying.file)) }
     ensures dry_run { IfOk result (λ applying. IsFlag matches.now (codes "dry-run") (λ given. given) applying.is_dry_run) }
     ensures impact { IfOk result (λ applying. IsFlag matches.now (codes "impact") (λ given. given) applying.has_impact) }
+    ensures refused { IfErr result (λ bad. (is_dry_run : Bool) × IsFlag matches.now (codes "dry-run") (λ given. given) is_dry_run × IsNoTarget matches.now is_dry_run) }
 {
     let is_dry_run = matches.get_flag("dry-run");
     Ok(ApplyArgs {
@@ -169,6 +173,7 @@ fn status_form_in(matches: &ArgMatches<'_>) -> Result<StatusForm, BadQuestion>
 pub(crate) fn status_args_of<'a>(matches: &ArgMatches<'a>) -> Result<StatusArgs<'a>, BadQuestion>
     ensures server { IfOk result (λ inspecting. IsServerBy matches.now (Folder inspecting.folder)) }
     ensures form { IfOk result (λ inspecting. IsStatusFormBy matches.now (Some inspecting.form)) }
+    ensures refused { IfErr result (λ bad. IsNoFolder matches.now ⊎ IsStatusFormBy matches.now None) }
 {
     let ServerPlace::Folder(folder) = server_in(matches)? else {
         return Err(BadQuestion::Words(NO_FOLDER));

@@ -1,4 +1,4 @@
-use Rattle.std.proofs.Common.{rules, ◌≡◌, ◌∙◌, ℕ, Some, is_some, option_map, codes, ap, subst, sym, map, List, true≢false, inl, inr}
+use Rattle.std.proofs.Common.{◌≡◌, ◌∙◌, ℕ, Some, is_some, option_map, codes, ap, subst, sym, map, List, true≢false, inl, inr}
 use Rattle.std.proofs.lemmas.Result.{IfErr-weaker, IfOk-weaker, err_from_is_err_and}
 use Rattle.std.specs.Prelude.{IfSome, string_bytes}
 use Rattle.clap.specs.Kinds.{HasKind}
@@ -7,10 +7,10 @@ use Rattle.prt_args.specs.Read.{IsAskedBy, IsServiceRefused}
 use Rattle.clap.specs.Words.{App, fault_of, found_of, rows_of, subcommand_rows_of, is_simple, is_simple_and_free, subcommand_name_of, subcommand_of}
 use Rattle.prt_args.specs.Asking.{name_of_asked}
 use Rattle.prt_args.specs.CommandLine.{command_line}
-use Rattle.prt_args.specs.Invocation.{invocation, arguments}
+use Rattle.prt_args.specs.Faults.{IsWordsFault}
+use Rattle.prt_args.specs.Invocation.{invocation, arguments, ask, serve}
 use Rattle.prt_args.proofs.WordClasses.{simple_line, free_line}
-use Rattle.prt_args.proofs.ParsedWords.{words_agree}
-use Rattle.prt_args.proofs.WordsRead.{any_fault, asked_is, conflict_fault, conflicting_is, found_in, is_served, named_found, no_question_of, no_reading, not_asked, other_is, question_is, refused_parse, served_is, words_fault}
+use Rattle.prt_args.proofs.WordsRead.{any_fault, asked_is, conflict_fault, conflicting_is, found_in, is_served, named_found, no_question_of, no_reading, not_asked, other_is, question_is, refused_parse, refused_question, refused_service, served_is, words_fault}
 use Rattle.prt_args.proofs.task.read_words.Goals as goal
 
 pub returns-in_err-matches-clause-fault : goal.returns-in_err-matches-clause-fault
@@ -18,11 +18,10 @@ returns-in_err-matches-clause-fault c =
     let texts : List (List ℕ) = map string_bytes c.args.words.now in
     let line = c.in_ok-command_line.ensures in
     let error = c.in_err-matches.field-0.0 in
-    let found = subcommand_of command_line texts in
     let has : HasKind (fault_of command_line texts) error =
     subst (λ (a : App). HasKind (fault_of a texts) error) line (c.in_err-matches.ensures.kinds (ap is_simple_and_free line ∙ free_line)) in
     let given = err_from_is_err_and c.from_residual-in_err-matches.result c.from_residual-in_err-matches.ensures.1 in
-    rw given.1 (words_fault (invocation (arguments c.args.words.now)) (fault_of command_line texts) found error given.0 (words_agree texts) has given.2)
+    rw given.1 (words_fault texts error given.0 has given.2)
 
 pub returns-in_err-serve_args_of-in-Some-clause-fault : goal.returns-in_err-serve_args_of-in-Some-clause-fault
 returns-in_err-serve_args_of-in-Some-clause-fault c =
@@ -30,7 +29,12 @@ returns-in_err-serve_args_of-in-Some-clause-fault c =
     let line = c.in_ok-command_line.ensures in
     let found = (c.in_ok-matches.ensures.matches (ap is_simple line ∙ simple_line)).1 ∙ ap (λ (a : App). subcommand_of a texts) line in
     let none = sym (ap (λ (a : App). fault_of a texts) line) ∙ c.in_ok-matches.ensures.kinds (ap is_simple_and_free line ∙ free_line) in
-    rw (served_is texts c.in_ok-matches.matches found none (c.subcommand_matches.ensures.found.0 (ap is_some c.in-Some.is))) (search rules)
+    let named = c.subcommand_matches.ensures.found.0 (ap is_some c.in-Some.is) in
+    let rows = subst (λ matches. IfSome matches (λ m. option_map (λ p. p.1) (subcommand_rows_of c.in_ok-matches.matches) ≡ Some (rows_of (found_of m.now)))) c.in-Some.is c.subcommand_matches.ensures.rows in
+    let is = found_in texts c.in_ok-matches.matches (codes "serve") c.in-Some.found.now found (named_found c.in_ok-matches.matches (codes "serve") _ named rows) in
+    let given = err_from_is_err_and c.from_residual-in_err-serve_args_of-in-Some.result c.from_residual-in_err-serve_args_of-in-Some.ensures.1 in
+    let bad = refused_service (arguments c.args.words.now) c.in_err-serve_args_of-in-Some.field-0.0 (c.in-Some.found.now, is, c.in_err-serve_args_of-in-Some.ensures.refused) c.in_err-serve_args_of-in-Some.ensures.fault in
+    rw (served_is texts c.in_ok-matches.matches found none named, given.1) (subst (IsWordsFault (serve (arguments c.args.words.now))) (sym given.2) bad)
 
 pub returns-in-Some-clause-task : goal.returns-in-Some-clause-task
 returns-in-Some-clause-task c =
@@ -46,7 +50,9 @@ returns-in_err-asked-in-None-clause-fault c =
     let line = c.in_ok-command_line.ensures in
     let found = (c.in_ok-matches.ensures.matches (ap is_simple line ∙ simple_line)).1 ∙ ap (λ (a : App). subcommand_of a texts) line in
     let none = sym (ap (λ (a : App). fault_of a texts) line) ∙ c.in_ok-matches.ensures.kinds (ap is_simple_and_free line ∙ free_line) in
-    rw (asked_is texts c.in_ok-matches.matches found none c.in_err-asked-in-None.ensures.fault.0) (search rules)
+    let given = err_from_is_err_and c.from_residual-in_err-asked-in-None.result c.from_residual-in_err-asked-in-None.ensures.1 in
+    let bad = refused_question texts c.in_ok-matches.matches c.in_err-asked-in-None.field-0.0 found c.in_err-asked-in-None.ensures.refused c.in_err-asked-in-None.ensures.fault.1 in
+    rw (asked_is texts c.in_ok-matches.matches found none c.in_err-asked-in-None.ensures.fault.0, given.1) (subst (IsWordsFault (ask (arguments c.args.words.now))) (sym given.2) bad)
 
 pub returns-in-Some-2-clause-task : goal.returns-in-Some-2-clause-task
 returns-in-Some-2-clause-task c =
