@@ -1,5 +1,5 @@
 -- What the words of `serve` and of a question say: the values that a parse gives their options and operands are those of the task.
-use Rattle.std.specs.Prelude.{◌≡◌, ◌⊎◌, ◌++◌, ℕ, Bool, true, false, List, [], ◌∷◌, Option, None, Some, bytes_eq, codes, if◌then◌else◌, option_and_then, option_map}
+use Rattle.std.specs.Prelude.{◌≡◌, ◌≢◌, ◌⊎◌, ◌++◌, ℕ, Bool, true, false, List, [], ◌∷◌, Option, None, Some, bytes_eq, codes, if◌then◌else◌, option_and_then, option_map}
 use Rattle.clap.specs.Words.{fault_of, found_of, rows_of, subcommand_of}
 use Rattle.clap.specs.declared.parser.matches.ArgMatches.{ArgMatches}
 use Rattle.prt_addr.specs.Word.{Word}
@@ -8,10 +8,10 @@ use Rattle.prt_args.specs.Analysis.{AreNamed, IsFlag, IsNamed, IsNoPlaceBy, IsPl
 use Rattle.prt_args.specs.Asking.{name_of_asked, name_of_word}
 use Rattle.prt_args.specs.CommandLine.{command_line}
 use Rattle.prt_args.specs.Invocation.{file_of, invocation, serve}
-use Rattle.prt_args.specs.NoQuestion.{IsNoQuestion}
+use Rattle.prt_args.specs.NoQuestion.{IsLeftOut, IsNoQuestion, needs_words}
 use Rattle.prt_args.specs.Places.{number_within}
 use Rattle.prt_args.specs.Reaching.{IsReachBy, values_of}
-use Rattle.prt_args.specs.Services.{IsStatusFormBy, IsTarget}
+use Rattle.prt_args.specs.Services.{IsStatusFormBy, IsTarget, TakesChanges}
 use Rattle.prt_args.specs.declared.asking.Asked.{Asked}
 use Rattle.prt_args.specs.declared.asking.Asked.TheVariants as asked
 use Rattle.prt_args.specs.declared.asking.QueryArgs.{QueryArgs}
@@ -57,19 +57,22 @@ abbrev pub labels_of : Bool → Labels
 labels_of true = labels.Names
 labels_of false = labels.Numbers
 
--- `--replace` makes a dump one that replaces
+-- `--replace` makes a dump one that replaces, neither in JSON nor with names
 abbrev pub dump_of : Bool → Verb
 dump_of true = verb.Replace
 dump_of false = verb.Dump
 
 abbrev pub IsVerbBy : ArgMatches → Verb → Type 0
 IsVerbBy matches verb.Dump = IsFlag matches (codes "replace") dump_of verb.Dump
-IsVerbBy matches verb.Replace = IsFlag matches (codes "replace") dump_of verb.Replace
+IsVerbBy matches verb.Replace = IsFlag matches (codes "replace") dump_of verb.Replace × IsLeftOut matches (codes "json") × IsLeftOut matches (codes "names")
 IsVerbBy matches _ = Unit {0}
 
 abbrev pub IsAskingBy : ArgMatches → QueryArgs → Type 0
 IsAskingBy matches asking =
-    ((words : List Word) × IsSourceBy matches (values_of matches (codes "words")) asking.source words × (asking.line.items ≡ line_of asking.verb words))
+    ((words : List Word)
+    × IsSourceBy matches (values_of matches (codes "words")) asking.source words
+    × (asking.line.items ≡ line_of asking.verb words)
+    × (needs_words asking.verb ≡ true → words ≢ []))
     × IsVerbBy matches asking.verb
     × IsFlag matches (codes "json") form_of asking.form
     × IsFlag matches (codes "names") labels_of asking.labels
@@ -100,6 +103,7 @@ IsAskedBy matches (asked.Assert asserting) =
 IsAskedBy matches (asked.Unused source) = IsSearched matches source
 IsAskedBy matches (asked.Apply applying) =
     IsTarget matches applying.target
+    × TakesChanges applying.target applying.is_dry_run
     × IsFileBy matches (option_map (λ path. path.now) applying.file)
     × IsFlag matches (codes "dry-run") (λ given. given) applying.is_dry_run
     × IsFlag matches (codes "impact") (λ given. given) applying.has_impact

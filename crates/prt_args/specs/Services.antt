@@ -33,3 +33,8 @@ IsAtomicBy matches (Address feed) (Some (Folder path)) = ⊥
 abbrev pub IsTarget : ArgMatches → Target → Type 0
 IsTarget matches (Database path) = IsNamed matches (sources.Database path) × (value_of matches (codes "atomic") ≡ None)
 IsTarget matches (Server ends) = IsNamed matches (sources.Server ends.feed) × IsAtomicBy matches ends.feed ends.atomic
+
+-- some place takes the changes, unless they are only printed
+abbrev pub TakesChanges : Target → (is_dry_run : Bool) → Type 0
+TakesChanges (Database path) is_dry_run = Unit {0}
+TakesChanges (Server ends) is_dry_run = ends.atomic ≡ None → is_dry_run ≡ true

@@ -361,6 +361,7 @@ fn needs_words(verb: Verb) -> bool
 /// They do, and the answer is to be in JSON, or to call tables by names.
 fn verb_in(verb: Verb, matches: &ArgMatches<'_>) -> Result<Verb, BadQuestion>
     ensures name { IfOk result (λ meant. name_of_verb meant ≡ name_of_verb verb) }
+    ensures words { IfOk result (λ meant. needs_words meant ≡ needs_words verb) }
     ensures replaces { IfOk result (IsVerbBy matches.now) }
     ensures refused { IfErr result (λ bad. IsNoVerb verb matches.now) }
 {

@@ -1,9 +1,9 @@
 //! What the words of `apply` and `status` ask for: which tables are made, and how a server does.
-ghost use Rattle.std.specs.Prelude.{◌⊎◌, Bool, IfErr, IfOk, None, Some, codes, option_map};
+ghost use Rattle.std.specs.Prelude.{◌≡◌, ◌⊎◌, Bool, IfErr, IfOk, None, Some, codes, option_map, true};
 ghost use Rattle.prt_args.specs.Analysis.{IsFlag, IsServerBy};
 ghost use Rattle.prt_args.specs.NoQuestion.{IsNoAtomic, IsNoFolder, IsNoTarget};
 ghost use Rattle.prt_args.specs.Read.{IsFileBy};
-ghost use Rattle.prt_args.specs.Services.{IsAtomicBy, IsStatusFormBy, IsTarget};
+ghost use Rattle.prt_args.specs.Services.{IsAtomicBy, IsStatusFormBy, IsTarget, TakesChanges};
 ghost use Rattle.prt_args.specs.declared.server_place.ServerPlace.TheVariants.{Folder};
 
 use crate::asking::{NO_TABLES, Source, named_source};
@@ -93,6 +93,7 @@ fn atomic_in<'a>(
     is_dry_run: bool,
 ) -> Result<Option<ServerPlace<'a>>, BadQuestion>
     ensures atomic { IfOk result (IsAtomicBy matches.now feed.entry) }
+    ensures takes { IfOk result (λ atomic. atomic ≡ None → is_dry_run ≡ true) }
     ensures refused { IfErr result (λ bad. IsNoAtomic matches.now feed.entry is_dry_run) }
 {
     match (feed, matches.get_str("atomic")) {
@@ -114,6 +115,7 @@ fn atomic_in<'a>(
 /// They aren't named, or are named by two; or a place is none, isn't needed or is missing.
 fn target_in<'a>(matches: &ArgMatches<'a>, is_dry_run: bool) -> Result<Target<'a>, BadQuestion>
     ensures target { IfOk result (IsTarget matches.now) }
+    ensures takes { IfOk result (λ target. TakesChanges target is_dry_run) }
     ensures refused { IfErr result (λ bad. IsNoTarget matches.now is_dry_run) }
 {
     match (named_source(matches)?, matches.get_str("atomic")) {
@@ -134,6 +136,7 @@ fn target_in<'a>(matches: &ArgMatches<'a>, is_dry_run: bool) -> Result<Target<'a
 /// They name no tables, two, a place that is none, or no place that takes the changes.
 pub(crate) fn apply_args_of<'a>(matches: &ArgMatches<'a>) -> Result<ApplyArgs<'a>, BadQuestion>
     ensures target { IfOk result (λ applying. IsTarget matches.now applying.target) }
+    ensures takes { IfOk result (λ applying. TakesChanges applying.target applying.is_dry_run) }
     ensures file { IfOk result (λ applying. IsFileBy matches.now (option_map (λ path. path.now) applying.file)) }
     ensures dry_run { IfOk result (λ applying. IsFlag matches.now (codes "dry-run") (λ given. given) applying.is_dry_run) }
     ensures impact { IfOk result (λ applying. IsFlag matches.now (codes "impact") (λ given. given) applying.has_impact) }
