@@ -48,10 +48,10 @@ abbrev pub line_of : Verb → List Word → List ℕ
 line_of verb.Show words = listing_line words
 line_of _ words = codes "route get" ++ spaced words
 
--- the tables, and the words that ask: the first operand is the script if neither `--db` nor `--server` names tables
-abbrev pub IsSourceBy : ArgMatches → (operands : List Word) → Source → (words : List Word) → Type 0
-IsSourceBy matches operands (Script script) words = NoneIsNamed matches × (first : Word) × (operands ≡ first ∷ words) × (option_map (λ path. path.now) script ≡ file_of first)
-IsSourceBy matches operands source words = IsNamed matches source × (words ≡ operands)
+-- the tables, and the words that ask: the first operand of `explain` is the script if neither `--db` nor `--server` names tables
+abbrev pub IsSourceBy : ArgMatches → (queried : Verb) → (operands : List Word) → Source → (words : List Word) → Type 0
+IsSourceBy matches queried operands (Script script) words = (queried ≡ verb.Explain) × NoneIsNamed matches × (first : Word) × (operands ≡ first ∷ words) × (option_map (λ path. path.now) script ≡ file_of first)
+IsSourceBy matches queried operands source words = IsNamed matches source × (words ≡ operands)
 
 abbrev pub labels_of : Bool → Labels
 labels_of true = labels.Names
@@ -70,7 +70,7 @@ IsVerbBy matches _ = Unit {0}
 abbrev pub IsAskingBy : ArgMatches → QueryArgs → Type 0
 IsAskingBy matches asking =
     ((words : List Word)
-    × IsSourceBy matches (values_of matches (codes "words")) asking.source words
+    × IsSourceBy matches asking.verb (values_of matches (codes "words")) asking.source words
     × (asking.line.items ≡ line_of asking.verb words)
     × (needs_words asking.verb ≡ true → words ≢ []))
     × IsVerbBy matches asking.verb

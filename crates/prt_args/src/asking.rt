@@ -336,7 +336,7 @@ fn source_and_words<'b, 'a>(
     matches: &ArgMatches<'a>,
     words: &'b [&'a str],
 ) -> Result<(Source<'a>, &'b [&'a str]), BadQuestion>
-    ensures named { IfOk result (λ named. IsSourceBy matches.now (map (λ word. word.now) words.now) named.0 (map (λ word. word.now) named.1.now)) }
+    ensures named { IfOk result (λ named. IsSourceBy matches.now verb (map (λ word. word.now) words.now) named.0 (map (λ word. word.now) named.1.now)) }
     ensures refused { IfErr result (λ bad. HasNoTables verb matches.now (map (λ word. word.now) words.now)) }
 {
     match (named_source(matches)?, verb, words.split_first()) {
@@ -362,6 +362,7 @@ fn needs_words(verb: Verb) -> bool
 fn verb_in(verb: Verb, matches: &ArgMatches<'_>) -> Result<Verb, BadQuestion>
     ensures name { IfOk result (λ meant. name_of_verb meant ≡ name_of_verb verb) }
     ensures words { IfOk result (λ meant. needs_words meant ≡ needs_words verb) }
+    ensures explains { IfOk result (λ meant. verb ≡ Verb.Explain → meant ≡ Verb.Explain) }
     ensures replaces { IfOk result (IsVerbBy matches.now) }
     ensures refused { IfErr result (λ bad. IsNoVerb verb matches.now) }
 {
