@@ -3,6 +3,7 @@ pub mod Arguments
 pub mod CommandWords
 pub mod HelpWords
 pub mod LostWords
+pub mod NoQuestions
 pub mod ParsedWords
 pub mod Readings
 pub mod Operands

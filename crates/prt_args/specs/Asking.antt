@@ -38,3 +38,15 @@ name_of_asked (asked.Assert asserting) = codes "assert"
 name_of_asked (asked.Unused source) = codes "unused"
 name_of_asked (asked.Apply applying) = codes "apply"
 name_of_asked (asked.Status inspecting) = codes "status"
+
+abbrev pub word_of : Asked → QuestionWord
+word_of (asked.Tables asking) = word.Tables asking.verb
+word_of (asked.Diff diffing) = word.Diff
+word_of (asked.Follow following) = word.Follow
+word_of (asked.Wait waiting) = word.Wait
+word_of (asked.Import importing) = word.Import
+word_of (asked.Impact rehearsing) = word.Impact
+word_of (asked.Assert asserting) = word.Assert
+word_of (asked.Unused source) = word.Unused
+word_of (asked.Apply applying) = word.Apply
+word_of (asked.Status inspecting) = word.Status

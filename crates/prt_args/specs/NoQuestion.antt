@@ -1,5 +1,6 @@
 -- When nothing can be asked by the values that a parse gives the options and operands of a question.
 use Rattle.std.specs.Prelude.{◌≡◌, ◌≢◌, ◌⊎◌, ◌||◌, Bool, true, false, List, [], ◌∷◌, None, Some, codes, is_some, length, map, option_and_then, option_map}
+use Rattle.clap.specs.Matches.{found_of, one_text}
 use Rattle.clap.specs.declared.parser.matches.ArgMatches.{ArgMatches}
 use Rattle.prt_addr.specs.Word.{Word, all_of}
 use Rattle.prt_route.specs.Names.{protocol}
@@ -7,6 +8,7 @@ use Rattle.prt_args.specs.Analysis.{IsFlag, IsMisnamed, IsNoPlaceBy, IsServerBy,
 use Rattle.prt_args.specs.Places.{is_folder, names_place, number_within}
 use Rattle.prt_args.specs.Reaching.{IsReachBy, names_nothing, span_of, values_of}
 use Rattle.prt_args.specs.Services.{IsStatusFormBy}
+use Rattle.prt_args.specs.Tasks.{text_of_flag}
 use Rattle.prt_args.specs.declared.asking.QuestionWord.{QuestionWord}
 use Rattle.prt_args.specs.declared.asking.QuestionWord.TheVariants as word
 use Rattle.prt_args.specs.declared.asking.Verb.{Verb}
@@ -133,3 +135,17 @@ IsNoQuestion word.Assert matches = IsMisnamed matches ⊎ HasNoFile matches
 IsNoQuestion word.Unused matches = IsMisnamed matches ⊎ HasScriptToo matches
 IsNoQuestion word.Apply matches = (is_dry_run : Bool) × IsFlag matches (codes "dry-run") (λ given. given) is_dry_run × IsNoTarget matches is_dry_run
 IsNoQuestion word.Status matches = IsNoFolder matches ⊎ IsStatusFormBy matches None
+
+-- a parse gave the flag a text, given or not
+abbrev pub HasText : ArgMatches → Word → Type 0
+HasText matches name = (given : Bool) × (one_text (found_of matches) name ≡ Some (text_of_flag given))
+
+-- it gave one to each flag of the subcommand by which something may not be asked
+abbrev pub HasTexts : QuestionWord → ArgMatches → Type 0
+HasTexts (word.Tables Dump) matches = HasText matches (codes "replace") × HasText matches (codes "json") × HasText matches (codes "names")
+HasTexts (word.Tables Replace) matches = HasText matches (codes "replace") × HasText matches (codes "json") × HasText matches (codes "names")
+HasTexts word.Diff matches = HasText matches (codes "all") × HasText matches (codes "check") × HasText matches (codes "impact")
+HasTexts word.Follow matches = HasText matches (codes "all")
+HasTexts word.Apply matches = HasText matches (codes "dry-run")
+HasTexts word.Status matches = HasText matches (codes "json") × HasText matches (codes "metrics")
+HasTexts _ matches = Unit {0}
