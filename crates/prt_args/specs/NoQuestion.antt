@@ -52,13 +52,13 @@ IsNoFolder matches = option_map is_folder (value_of matches (codes "server")) �
 
 -- ---- `get`, `show`, `explain` and `dump`
 
--- the packet is named by operands
+-- operands name the packet
 abbrev pub needs_words : Verb → Bool
 needs_words Get = true
 needs_words Explain = true
 needs_words _ = false
 
--- a dump that replaces is to be in JSON, or to call tables by names
+-- a dump is to replace, and to be in JSON or to call tables by names
 abbrev pub IsNoReplacing : ArgMatches → Type 0
 IsNoReplacing matches = IsGiven matches (codes "replace") × (IsGiven matches (codes "json") ⊎ IsGiven matches (codes "names"))
 
@@ -67,7 +67,7 @@ IsNoVerb Dump matches = IsNoReplacing matches
 IsNoVerb Replace matches = IsNoReplacing matches
 IsNoVerb _ matches = ⊥
 
--- no tables are named; an explanation may have those that a script makes, which is the first operand
+-- no tables are named; those of an explanation may be made by a script, which the first operand names
 abbrev pub HasNoTables : Verb → ArgMatches → (operands : List Word) → Type 0
 HasNoTables Explain matches operands = IsMisnamed matches ⊎ (NoneIsNamed matches × (operands ≡ []))
 HasNoTables _ matches operands = NamesNoTables matches
