@@ -7,21 +7,18 @@ ghost use Rattle.prt_serve.specs.Resumed.{resumed_remaining};
 ghost use Rattle.prt_serve.specs.Together.{Comes, FailsToOpen, FileIs, FitsNumbers, ServesTogether, ToldIs, outcome_fault, outcome_refused, outcome_text};
 ghost use Rattle.prt_session.specs.Steps.{AreSubmittable};
 
+use crate::context::{ServiceContext, Serving};
 use crate::gate::Gate;
 use crate::opening::{Announcement, AnnouncementError, at_text, read_announcement};
 use crate::resumed::Resumed;
 use prt_command::Command;
 use prt_replies::{write_bytes, write_reply};
-use prt_service::{Looker, Service, ServiceBrand, SubmitError};
+use prt_service::{Looker, SubmitError};
 use prt_session::{
     CommandsRead, Observer, Refusal, Reply, ScriptEnd, collect_commands, write_accepted,
 };
-use sqlite::Alter;
-use std::alloc::Global;
 use std::io::{Read, Write};
 use std::net::SocketAddr;
-use std::sync::Wait;
-use std::time::Clock;
 
 /// How many bytes a read takes that are let go.
 const BLOCK: usize = 1024;
@@ -85,16 +82,15 @@ impl<'a, G: Gate> FileGate<'a, G> {
 /// # Errors
 ///
 /// Those of `Service::submit_all_at`: no command is made. `Moved` comes for a file without commands too.
-fn make<H: Wait + Clock, S: Alter + Drop, J: ServiceBrand>(
-    rt: &H,
-    service: &Service<S, J>,
+fn make<C: Serving>(
+    context: &ServiceContext<'_, C>,
     looker: &mut Looker,
     expected: Option<u64>,
     commands: &[Command],
 ) -> Result<Option<u64>, SubmitError>
-    requires of { (looker.old.known.book ≡ J.book) × (looker.old.known.base ≡ J.base) }
+    requires of { (looker.old.known.book ≡ C.Brand.book) × (looker.old.known.base ≡ C.Brand.base) }
     requires submittable { AreSubmittable commands.now }
-    ensures of { (looker.new.known.book ≡ J.book) × (looker.new.known.base ≡ J.base) }
+    ensures of { (looker.new.known.book ≡ C.Brand.book) × (looker.new.known.base ≡ C.Brand.base) }
     ensures held { (looker.new.held ≡ looker.old.held) × (looker.new.announced ≡ looker.old.announced) }
     ensures came { Comes expected looker.old.known looker.new.known commands.now result }
     ensures fits { FitsNumbers result }
@@ -103,13 +99,16 @@ fn make<H: Wait + Clock, S: Alter + Drop, J: ServiceBrand>(
         let Some(expected) = expected else {
             return Ok(None);
         };
-        let number = service.number(rt);
+        let number = context.service.number(context.rt);
         if number == expected {
             return Ok(None);
         }
         return Err(SubmitError::Moved(number));
     }
-    match service.submit_all_at(rt, expected, commands) {
+    match context
+        .service
+        .submit_all_at(context.rt, expected, commands)
+    {
         Ok(receipt) => {
             let number = receipt.number();
             looker.learn(receipt);
@@ -180,30 +179,28 @@ fn refuse<G: Gate, W: Write>(gate: &FileGate<'_, G>, writer: &mut W, reason: Ref
 }
 
 /// Serves a file of which this was announced.
-fn serve_file<H: Wait + Clock, S: Alter + Drop, J: ServiceBrand, G: Gate, R: Read + Drop, W: Write>(
-    rt: &H,
-    alloc: Global,
-    service: &Service<S, J>,
+fn serve_file<C: Serving, R: Read + Drop, W: Write>(
+    context: &ServiceContext<'_, C>,
     looker: &mut Looker,
     announced: Announcement,
-    mut gate: FileGate<'_, G>,
+    mut gate: FileGate<'_, C::Gate>,
     reader: &mut Resumed<R>,
     writer: &mut W,
 ) -> ScriptEnd
-    requires of { (looker.old.known.book ≡ J.book) × (looker.old.known.base ≡ J.base) }
-    ensures of { (looker.new.known.book ≡ J.book) × (looker.new.known.base ≡ J.base) }
+    requires of { (looker.old.known.book ≡ C.Brand.book) × (looker.old.known.base ≡ C.Brand.base) }
+    ensures of { (looker.new.known.book ≡ C.Brand.book) × (looker.new.known.base ≡ C.Brand.base) }
     ensures held { (looker.new.held ≡ looker.old.held) × (looker.new.announced ≡ looker.old.announced) }
     ensures served { FileIs announced looker.old.known looker.new.known (resumed_remaining R.remaining reader.old) (resumed_remaining R.remaining reader.new)
         (W.contents writer.old) (W.contents writer.new) result }
 {
-    let CommandsRead { end, commands } = collect_commands(alloc, reader, writer, &mut gate);
+    let CommandsRead { end, commands } = collect_commands(context.alloc, reader, writer, &mut gate);
     if end.refused || end.fault.is_some() {
         return end;
     }
     if announced.is_cut_off(commands.len(), reader.is_ended()) {
         return refuse(&gate, writer, Refusal::ReadFault);
     }
-    let came = make(rt, service, looker, announced.number, commands.as_slice());
+    let came = make(context, looker, announced.number, commands.as_slice());
     let end = write_outcome(writer, commands.len(), &came);
     match came {
         Ok(Some(last)) => gate.made(last, commands.as_slice()),
@@ -228,32 +225,23 @@ fn let_go<R: Read>(reader: &mut R, blocks: usize)
 
 /// Refuses an atomic file that is served too late, with `ReadFault`: nothing of it is made. Its input is read up to 64 MiB,
 /// and let go; it counts as one line.
-pub(crate) fn turn_away<
-    H: Wait + Clock,
-    S: Alter + Drop,
-    J: ServiceBrand,
-    G: Gate,
-    R: Read + Drop,
-    W: Write,
->(
-    rt: &H,
-    service: &Service<S, J>,
+pub(crate) fn turn_away<C: Serving, R: Read + Drop, W: Write>(
+    context: &ServiceContext<'_, C>,
     looker: &mut Looker,
     session: u64,
     client: SocketAddr,
-    gate: &G,
     mut reader: R,
     writer: &mut W,
 ) -> FileServed<R>
-    requires { (looker.old.known.book ≡ J.book) × (looker.old.known.base ≡ J.base) }
-    ensures of { (looker.new.known.book ≡ J.book) × (looker.new.known.base ≡ J.base) }
+    requires { (looker.old.known.book ≡ C.Brand.book) × (looker.old.known.base ≡ C.Brand.base) }
+    ensures of { (looker.new.known.book ≡ C.Brand.book) × (looker.new.known.base ≡ C.Brand.base) }
     ensures offline { (looker.new.held ≡ None) × (looker.new.announced ≡ None) }
     ensures unmade { FailsToOpen looker.old.known looker.new.known (R.remaining reader) (R.remaining result.reader)
         (W.contents writer.old) (W.contents writer.new) result.end }
 {
-    looker.rest(rt, service);
+    looker.rest(context.rt, context.service);
     let mut observer = FileGate {
-        gate,
+        gate: context.gate,
         session,
         client,
         line: 0,
@@ -280,34 +268,24 @@ pub(crate) fn turn_away<
 /// The looker learns the receipt, and is offline at the end. The gate is called round each line of the file, and then
 /// for each command that was made, or once more if they are refused, with the number of the last line. A file that fails
 /// before its first line is over counts as one line. After a refusal the rest of the input is read, up to 64 MiB, and let go.
-pub fn serve_atomic<
-    H: Wait + Clock,
-    S: Alter + Drop,
-    J: ServiceBrand,
-    G: Gate,
-    R: Read + Drop,
-    W: Write,
->(
-    rt: &H,
-    alloc: Global,
-    service: &Service<S, J>,
+pub fn serve_atomic<C: Serving, R: Read + Drop, W: Write>(
+    context: &ServiceContext<'_, C>,
     looker: &mut Looker,
     session: u64,
     client: SocketAddr,
-    gate: &G,
     reader: R,
     writer: &mut W,
 ) -> FileServed<R>
-    requires { (looker.old.known.book ≡ J.book) × (looker.old.known.base ≡ J.base) }
-    ensures of { (looker.new.known.book ≡ J.book) × (looker.new.known.base ≡ J.base) }
+    requires { (looker.old.known.book ≡ C.Brand.book) × (looker.old.known.base ≡ C.Brand.base) }
+    ensures of { (looker.new.known.book ≡ C.Brand.book) × (looker.new.known.base ≡ C.Brand.base) }
     ensures offline { (looker.new.held ≡ None) × (looker.new.announced ≡ None) }
     ensures grows { Begins looker.old.known looker.new.known }
     ensures served { ServesTogether looker.old.known looker.new.known (R.remaining reader) (R.remaining result.reader)
         (W.contents writer.old) (W.contents writer.new) result.end }
 {
-    looker.rest(rt, service);
+    looker.rest(context.rt, context.service);
     let mut observer = FileGate {
-        gate,
+        gate: context.gate,
         session,
         client,
         line: 0,
@@ -320,9 +298,7 @@ pub fn serve_atomic<
             return FileServed { end, reader };
         }
     };
-    let end = serve_file(
-        rt, alloc, service, looker, announced, observer, &mut file, writer,
-    );
+    let end = serve_file(context, looker, announced, observer, &mut file, writer);
     let mut reader = file.into_reader().into_reader();
     // A connection that is closed before all its bytes are read may lose its reply.
     let_go(&mut reader, if end.refused { MOST_BLOCKS } else { 0 });

@@ -7,6 +7,7 @@ ghost use Rattle.prt_serve.specs.Feed.{Feeds, Remarks, Tells, comment_text};
 ghost use Rattle.prt_service.specs.Service.{IsFollowRefusal};
 ghost use Rattle.prt_replies.specs.Written.{Written};
 
+use crate::context::{ServiceContext, Serving};
 use crate::places::{Place, Places};
 use crate::watch::{Due, Peer, Watch, look};
 use arrayvec::ArrayString;
@@ -14,10 +15,9 @@ use itoa::Buffer;
 use prt_command::Command;
 use prt_feed::{change_line, opening_text};
 use prt_replies::write_bytes;
-use prt_service::{Follower, News, Service, ServiceBrand, Unfollowed};
+use prt_service::{Follower, News, Unfollowed};
 use prt_session::Refusal;
 use prt_version::Version;
-use sqlite::Alter;
 use std::alloc::Global;
 use std::io::{Read, Write};
 use std::sync::{Arc, Wait};
@@ -111,23 +111,22 @@ fn write_quiet<R: Read, W: Write>(watch: &mut Watch<'_, R>, writer: &mut W) -> b
 }
 
 /// Writes each command that the follower learns, until it learns none, and comments; returns whether all of it went well.
-fn tell_on<H: Wait + Clock, J: ServiceBrand, R: Read, W: Write>(
-    rt: &H,
-    alloc: Global,
-    follower: &mut Follower<J>,
+fn tell_on<C: Serving, R: Read, W: Write>(
+    context: &ServiceContext<'_, C>,
+    follower: &mut Follower<C::Brand>,
     watch: &mut Watch<'_, R>,
     writer: &mut W,
 ) -> bool
     ensures { Tells follower.old follower.new result (W.contents writer.old) (W.contents writer.new) }
 {
-    for _ in rt.forever() {
-        match follower.next_within(rt, watch.pause()) {
+    for _ in context.rt.forever() {
+        match follower.next_within(context.rt, watch.pause()) {
             News::Command { command, together } => {
                 watch.wrote();
                 if !write_together(writer, together) {
                     return false;
                 }
-                if !write_change(writer, alloc, follower.number(), &command) {
+                if !write_change(writer, context.alloc, follower.number(), &command) {
                     return false;
                 }
             }
@@ -163,11 +162,10 @@ fn place_for<'a, H: Wait + Clock, R: Read>(
 
 /// Writes what is published: the tables of a version, and, with a place, each command that the follower learns after it;
 /// returns whether all of it went well.
-fn feed<H: Wait + Clock, J: ServiceBrand, R: Read, W: Write>(
-    rt: &H,
-    alloc: Global,
+fn feed<C: Serving, R: Read, W: Write>(
+    context: &ServiceContext<'_, C>,
     places: &Places,
-    follower: &mut Follower<J>,
+    follower: &mut Follower<C::Brand>,
     version: Arc<Version>,
     reader: &mut R,
     writer: &mut W,
@@ -176,17 +174,17 @@ fn feed<H: Wait + Clock, J: ServiceBrand, R: Read, W: Write>(
     ensures { Feeds follower.old follower.new result (W.contents writer.old) (W.contents writer.new) }
 {
     let _number = follower.number();
-    let is_written = write_opening(writer, alloc, &version);
+    let is_written = write_opening(writer, context.alloc, &version);
     // Releases the version before it waits.
     drop(version);
     if !is_written {
         return false;
     }
-    let Some(place) = place_for(rt, places, reader) else {
+    let Some(place) = place_for(context.rt, places, reader) else {
         return true;
     };
-    let is_whole = tell_on(rt, alloc, follower, &mut Watch::new(reader), writer);
-    place.leave(rt);
+    let is_whole = tell_on(context, follower, &mut Watch::new(reader), writer);
+    place.leave(context.rt);
     is_whole
 }
 
@@ -205,25 +203,23 @@ fn feed<H: Wait + Clock, J: ServiceBrand, R: Read, W: Write>(
 /// # Errors
 ///
 /// Those of `Service::follow`; nothing is written then.
-pub fn serve_feed<H: Wait + Clock, S: Alter + Drop, J: ServiceBrand, R: Read, W: Write>(
-    rt: &H,
-    alloc: Global,
-    service: &Service<S, J>,
+pub fn serve_feed<C: Serving, R: Read, W: Write>(
+    context: &ServiceContext<'_, C>,
     places: &Places,
     reader: &mut R,
     writer: &mut W,
 ) -> Result<Fed, Refusal>
-    ensures fed { IfOk result (λ fed. (opening : Line) × (opening.book ≡ J.book) × (opening.base ≡ J.base) × Feeds opening fed.left fed.is_whole (W.contents writer.old) (W.contents writer.new)) }
+    ensures fed { IfOk result (λ fed. (opening : Line) × (opening.book ≡ C.Brand.book) × (opening.base ≡ C.Brand.base) × Feeds opening fed.left fed.is_whole (W.contents writer.old) (W.contents writer.new)) }
     ensures reason { IfErr result IsFollowRefusal }
     ensures nothing { OnErr result (writer.new ≡ writer.old) }
 {
-    let (mut follower, version) = match service.follow(rt) {
+    let (mut follower, version) = match context.service.follow(context.rt) {
         Ok(made) => made,
         Err(reason) => return Err(reason),
     };
-    let is_whole = feed(rt, alloc, places, &mut follower, version, reader, writer);
+    let is_whole = feed(context, places, &mut follower, version, reader, writer);
     Ok(Fed {
         is_whole,
-        left: follower.leave(rt, service),
+        left: follower.leave(context.rt, context.service),
     })
 }

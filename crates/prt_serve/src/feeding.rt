@@ -2,19 +2,17 @@
 ghost use Rattle.std.specs.Prelude.{◌≡◌, ◌≢◌, None, vec_len};
 
 use crate::accepting::{Accepted, accept_one};
+use crate::context::{ServiceContext, Serving, SharedServing};
 use crate::feed::serve_feed;
 use crate::gate::Gate;
 use crate::listen::{Accepting, Entrance, Limits, ServeEnd, Worked, serve_all};
 use crate::places::Places;
 use crossbeam_channel::{Receiver, Sender, bounded};
-use prt_service::{Service, ServiceBrand};
-use sqlite::Alter;
-use std::alloc::Global;
 use std::io::{self, Read, Write};
 use std::net::{OpenListener, OpenStream};
 use std::sync::Wait;
 use std::sync::atomic::{AtomicBool, Ordering};
-use std::thread::{self, Threads};
+use std::thread;
 use std::time::{Clock, Duration};
 
 /// How many connections follow at once.
@@ -55,13 +53,12 @@ fn feed_ends<T: OpenStream + Drop>(stream: T) -> io::Result<FeedEnds<T>> {
 }
 
 /// Feeds one connection after another, until no more come. A fault ends its own feed alone, and closes its connection.
-fn feed_streams<
-    H: Wait + Clock,
-    S: Alter + Drop,
-    J: ServiceBrand,
-    T: Read + Write + OpenStream + Drop,
->(rt: &H, alloc: Global, service: &Service<S, J>, places: &Places, streams: &Receiver<T>) {
-    for stream in streams.iter(rt) {
+fn feed_streams<C: Serving, T: Read + Write + OpenStream + Drop>(
+    context: &ServiceContext<'_, C>,
+    places: &Places,
+    streams: &Receiver<T>,
+) {
+    for stream in streams.iter(context.rt) {
         if let Ok(
             FeedEnds {
                 mut reader,
@@ -69,7 +66,7 @@ fn feed_streams<
             },
         ) = feed_ends(stream)
         {
-            let _fed = serve_feed(rt, alloc, service, places, &mut reader, &mut writer).is_ok();
+            let _fed = serve_feed(context, places, &mut reader, &mut writer).is_ok();
         }
     }
 }
@@ -87,11 +84,11 @@ enum Round {
 
 /// Accepts a connection at each listener, if one waits there, and hands it to a feeder. One for which no feeder gets free
 /// in time is closed.
-fn accept_round<H: Wait + Clock, G: Gate, T: Drop, L: OpenListener<Stream = T>>(
+fn accept_round<H: Wait + Clock, G: Gate, L: OpenListener>(
     rt: &H,
     gate: &G,
     listeners: &[L],
-    streams: &Sender<T>,
+    streams: &Sender<L::Stream>,
 ) -> Round {
     let patience = Duration::from_secs(FOR_FEEDER);
     let mut round = Round::Nobody;
@@ -120,11 +117,11 @@ fn stop_waiting<L: OpenListener>(listeners: &[L]) -> bool {
 
 /// Accepts connections, and hands each to a feeder that is free or soon is, until it has to end. One for which no feeder
 /// is free is closed. Closes the channel behind it.
-fn accept_feeds<H: Wait + Clock, G: Gate, T: Drop, L: OpenListener<Stream = T>>(
+fn accept_feeds<H: Wait + Clock, G: Gate, L: OpenListener>(
     rt: &H,
     gate: &G,
     listeners: &[L],
-    streams: Sender<T>,
+    streams: Sender<L::Stream>,
     is_ended: &AtomicBool,
 ) -> Accepting {
     // Waits for no client, so that it sees when it is to end.
@@ -146,31 +143,21 @@ fn accept_feeds<H: Wait + Clock, G: Gate, T: Drop, L: OpenListener<Stream = T>>(
 
 /// Feeds the connections of listeners until it has to end, and following has ended.
 fn feed_all<
-    H: Threads + Wait + Clock + Sync,
-    S: Alter + Drop + Send,
-    J: ServiceBrand + Send,
-    G: Gate + Sync,
+    C: SharedServing,
     T: Read + Write + OpenStream + Drop + Send,
     L: OpenListener<Stream = T> + Sync,
->(
-    rt: &H,
-    alloc: Global,
-    service: &Service<S, J>,
-    gate: &G,
-    listeners: &[L],
-    is_ended: &AtomicBool,
-) -> Accepting {
-    let Ok((sender, streams)) = bounded(alloc, 0) else {
+>(context: &ServiceContext<'_, C>, listeners: &[L], is_ended: &AtomicBool) -> Accepting {
+    let Ok((sender, streams)) = bounded(context.alloc, 0) else {
         return Accepting::Failed;
     };
     let places = Places::new(FOLLOWERS);
     let (has_fed, accepting) = thread::join(
-        rt,
+        context.rt,
         || {
-            let feeder = |_| feed_streams(rt, alloc, service, &places, &streams);
-            thread::map_indices(rt, alloc, FEEDERS, &feeder).is_ok()
+            let feeder = |_| feed_streams(context, &places, &streams);
+            thread::map_indices(context.rt, context.alloc, FEEDERS, &feeder).is_ok()
         },
-        move || accept_feeds(rt, gate, listeners, sender, is_ended),
+        move || accept_feeds(context.rt, context.gate, listeners, sender, is_ended),
     );
     if has_fed {
         accepting
@@ -183,31 +170,27 @@ fn feed_all<
 /// which 16 follow once they have read the tables. A further one waits up to 10 seconds for a thread, and is closed then.
 /// A feed has a thread of its own, and its faults end it alone. All threads have ended when it returns.
 pub fn serve_and_feed<
-    H: Threads + Wait + Clock + Sync,
-    S: Alter + Drop + Send,
-    J: ServiceBrand + Send,
-    G: Gate + Sync,
+    C: SharedServing,
     T: Read + Write + OpenStream + Drop + Send,
     L: OpenListener<Stream = T> + Drop + Sync,
 >(
-    rt: &H,
-    alloc: Global,
-    service: &Service<S, J>,
-    gate: &G,
+    context: &ServiceContext<'_, C>,
     entrances: &[Entrance<L>],
     limits: Limits,
     feeds: &[L],
-) -> Worked<J>
+) -> Worked<C::Brand>
     ensures { result.end.accepting ≢ Accepting.Failed → result.end.refused ≡ None → vec_len result.shifts ≡ limits.workers }
 {
     let is_ended = AtomicBool::new(false);
+    let (own, is_over) = (*context, &is_ended);
     let (feeding, Worked { end, shifts }) = thread::join(
-        rt,
-        || feed_all(rt, alloc, service, gate, feeds, &is_ended),
-        || {
-            let worked = serve_all(rt, alloc, service, gate, entrances, limits);
-            is_ended.store(true, Ordering::SeqCst);
-            service.end_following(rt);
+        context.rt,
+        || feed_all(context, feeds, &is_ended),
+        // The prover keeps what a closure ensures only if the closure owns its context.
+        move || {
+            let worked = serve_all(&own, entrances, limits);
+            is_over.store(true, Ordering::SeqCst);
+            own.service.end_following(own.rt);
             worked
         },
     );

@@ -4,6 +4,7 @@
 mod accepting;
 mod atomic;
 mod connection;
+mod context;
 mod feed;
 mod feeding;
 mod gate;
@@ -23,6 +24,7 @@ mod worker;
 
 pub use atomic::{FileServed, serve_atomic};
 pub use connection::{Ends, Lines, Pipeline, Replies, ends_over};
+pub use context::{ServiceContext, Serving, ServingOf, SharedServing};
 pub use feed::{Fed, serve_feed};
 pub use feeding::serve_and_feed;
 pub use gate::{Gate, OpenGate, Queued};

@@ -5,6 +5,7 @@ ghost use denote.Param.Send.{IsSend, IsSync};
 
 use crate::accepting::{Accepted, accept_one};
 use crate::connection::{Lines, Replies};
+use crate::context::{ServiceContext, Serving, SharedServing};
 use crate::gate::Gate;
 use crate::idle::close;
 use crate::room::{Arrival, Connected, attend};
@@ -12,9 +13,8 @@ use crate::shift::Shift;
 use crate::turnstile::Turnstile;
 use crate::worker::{Kind, Served, work};
 use crossbeam_channel::{Receiver, Sender, bounded};
-use prt_service::{Service, ServiceBrand};
+use prt_service::ServiceBrand;
 use prt_session::Refusal;
-use sqlite::Alter;
 use std::alloc::{AllocError, Global};
 use std::io::{Read, Write};
 use std::net::{OpenListener, OpenStream};
@@ -105,11 +105,11 @@ impl<J: ServiceBrand> Worked<J> {
 }
 
 /// Accepts connections until the turnstile is shut, or this ends by itself.
-fn accept_each<H: Wait + Clock, G: Gate, T: Drop, L: OpenListener<Stream = T> + Drop>(
+fn accept_each<H: Wait + Clock, G: Gate, L: OpenListener + Drop>(
     rt: &H,
     gate: &G,
     entrance: &Entrance<L>,
-    arrivals: &Sender<Arrival<T>>,
+    arrivals: &Sender<Arrival<L::Stream>>,
     turnstile: &Turnstile,
 ) -> Accepting {
     let kind = entrance.kind;
@@ -146,11 +146,11 @@ fn accept_each<H: Wait + Clock, G: Gate, T: Drop, L: OpenListener<Stream = T> + 
 ///
 /// After an error that may pass it notifies the gate, pauses and tries again. It sees that it is to end once its listener
 /// returns, by a connection or an error.
-pub fn accept<H: Wait + Clock, G: Gate, T: Drop, L: OpenListener<Stream = T> + Drop>(
+pub fn accept<H: Wait + Clock, G: Gate, L: OpenListener + Drop>(
     rt: &H,
     gate: &G,
     entrance: &Entrance<L>,
-    arrivals: Sender<Arrival<T>>,
+    arrivals: Sender<Arrival<L::Stream>>,
     turnstile: &Turnstile,
 ) -> Accepting {
     let accepting = accept_each(rt, gate, entrance, &arrivals, turnstile);
@@ -161,23 +161,17 @@ pub fn accept<H: Wait + Clock, G: Gate, T: Drop, L: OpenListener<Stream = T> + D
 
 /// One who accepts at a listener, whose thread is still to be started.
 #[derive(Drop)]
-struct Doorkeeper<'a, H: Wait + Clock, G: Gate, T: Drop, L: OpenListener<Stream = T> + Drop> {
+struct Doorkeeper<'a, H: Wait + Clock, G: Gate, L: OpenListener + Drop> {
     rt: &'a H,
     gate: &'a G,
     entrance: &'a Entrance<L>,
-    arrivals: Sender<Arrival<T>>,
+    arrivals: Sender<Arrival<L::Stream>>,
     turnstile: &'a Turnstile,
     /// Where it notes how it ended.
     ended: &'a Mutex<Accepting>,
 }
 
-impl<'a, H: Wait + Clock, G: Gate, T: Drop, L: OpenListener<Stream = T> + Drop> Doorkeeper<
-    'a,
-    H,
-    G,
-    T,
-    L,
-> {
+impl<'a, H: Wait + Clock, G: Gate, L: OpenListener + Drop> Doorkeeper<'a, H, G, L> {
     /// Accepts until it or another ends.
     fn serve(self) {
         let accepting = accept(
@@ -201,13 +195,12 @@ fn note_end<H: Wait>(rt: &H, ended: &Mutex<Accepting>, accepting: Accepting) {
 fn accept_all<
     H: Threads + Wait + Clock + Sync,
     G: Gate + Sync,
-    T: Drop + Send,
-    L: OpenListener<Stream = T> + Drop + Sync,
+    L: OpenListener<Stream: Send> + Drop + Sync,
 >(
     rt: &H,
     gate: &G,
     entrances: &[Entrance<L>],
-    arrivals: Sender<Arrival<T>>,
+    arrivals: Sender<Arrival<L::Stream>>,
     sessions: u64,
 ) -> Accepting {
     let (turnstile, ended) = (Turnstile::new(sessions), Mutex::new(Accepting::Ended));
@@ -239,81 +232,52 @@ fn accept_all<
 
 /// A worker whose thread is still to be started.
 #[derive(Drop)]
-struct Worker<
-    'a,
-    H: Wait + Clock,
-    S: Alter + Drop,
-    J: ServiceBrand,
-    G: Gate,
-    T: Read + Write + Drop,
-> {
-    rt: &'a H,
-    alloc: Global,
-    service: &'a Service<S, J>,
-    gate: &'a G,
+struct Worker<'a, C: Serving, T: Read + Write + Drop> {
+    context: ServiceContext<'a, C>,
     jobs: Receiver<Connected<T>>,
     idle: Option<Duration>,
 }
 
-impl<'a, H: Wait + Clock, S: Alter + Drop, J: ServiceBrand, G: Gate, T: Read + Write + Drop> Worker<
-    'a,
-    H,
-    S,
-    J,
-    G,
-    T,
-> {
+impl<'a, C: Serving, T: Read + Write + Drop> Worker<'a, C, T> {
     fn new(
-        rt: &'a H,
-        alloc: Global,
-        service: &'a Service<S, J>,
-        gate: &'a G,
+        context: ServiceContext<'a, C>,
         jobs: Receiver<Connected<T>>,
         idle: Option<Duration>,
-    ) -> Worker<'a, H, S, J, G, T> {
+    ) -> Worker<'a, C, T> {
         Worker {
-            rt,
-            alloc,
-            service,
-            gate,
+            context,
             jobs,
             idle,
         }
     }
 
     /// Serves jobs until the channel is closed, as `work` does.
-    fn serve(self) -> Result<Shift<J>, Refusal> {
-        let jobs = self.jobs.iter(self.rt);
+    fn serve(self) -> Result<Shift<C::Brand>, Refusal> {
+        let jobs = self.jobs.iter(self.context.rt);
         let idle = self.idle;
         let after = |served: Served<Lines<T>, Replies<T>>| close(served, idle);
-        work(self.rt, self.alloc, self.service, jobs, self.gate, after)
+        work(&self.context, jobs, after)
     }
 }
 
 /// The waiting room, whose thread is still to be started.
 #[derive(Drop)]
-struct Attendant<'a, H: Wait + Clock, G: Gate, T: Read + Write + OpenStream + Drop> {
-    rt: &'a H,
-    alloc: Global,
-    gate: &'a G,
+struct Attendant<'a, C: Serving, T: Read + Write + OpenStream + Drop> {
+    context: ServiceContext<'a, C>,
     arrivals: Receiver<Arrival<T>>,
     jobs: Sender<Connected<T>>,
     idle: Option<Duration>,
 }
 
-impl<'a, H: Wait + Clock, G: Gate, T: Read + Write + OpenStream + Drop> Attendant<'a, H, G, T> {
+impl<'a, C: Serving, T: Read + Write + OpenStream + Drop> Attendant<'a, C, T> {
     fn new(
-        rt: &'a H,
-        alloc: Global,
-        gate: &'a G,
+        context: ServiceContext<'a, C>,
         arrivals: Receiver<Arrival<T>>,
         jobs: Sender<Connected<T>>,
         idle: Option<Duration>,
-    ) -> Attendant<'a, H, G, T> {
+    ) -> Attendant<'a, C, T> {
         Attendant {
-            rt,
-            alloc,
-            gate,
+            context,
             arrivals,
             jobs,
             idle,
@@ -322,14 +286,13 @@ impl<'a, H: Wait + Clock, G: Gate, T: Read + Write + OpenStream + Drop> Attendan
 
     /// Attends to connections until no more come.
     fn serve(self) {
-        attend(
-            self.rt,
-            self.alloc,
-            self.gate,
-            self.arrivals,
-            self.jobs,
-            self.idle,
-        );
+        let Attendant {
+            context,
+            arrivals,
+            jobs,
+            idle,
+        } = self;
+        attend(&context, arrivals, jobs, idle);
     }
 }
 
@@ -454,15 +417,12 @@ impl<J: ServiceBrand> Manned<J> {
 
 /// Starts so many workers like this one, and adds their threads to the crew; returns whether all of that went well. The one
 /// that they are like is let go, so that a send fails once no worker is left.
-fn start_workers<
-    's,
-    E: 's,
-    H: Wait + Clock + Sync + 's,
-    S: Alter + Drop + Send + 's,
-    J: ServiceBrand + Send + 's,
-    G: Gate + Sync + 's,
-    T: Read + Write + OpenStream + Drop + Send + 's,
->(scope: &Scope<'s, E>, like: Worker<'s, H, S, J, G, T>, workers: usize, crew: &mut Crew<J>) -> bool
+fn start_workers<'s, E: 's, C: SharedServing + 's, T: Read + Write + OpenStream + Drop + Send + 's>(
+    scope: &Scope<'s, E>,
+    like: Worker<'s, C, T>,
+    workers: usize,
+    crew: &mut Crew<C::Brand>,
+) -> bool
     ensures added { result ≡ true → vec_len crew.new.threads ≡ vec_len crew.old.threads + workers }
     ensures shifts { vec_len crew.new.shifts ≡ vec_len crew.old.shifts }
 {
@@ -470,14 +430,7 @@ fn start_workers<
         let Ok(jobs) = like.jobs.clone() else {
             return false;
         };
-        let worker = Worker::new(
-            like.rt,
-            like.alloc,
-            like.service,
-            like.gate,
-            jobs,
-            like.idle,
-        );
+        let worker = Worker::new(like.context, jobs, like.idle);
         if !crew.add_started(scope.spawn(move || worker.serve()).ok()) {
             return false;
         }
@@ -487,22 +440,16 @@ fn start_workers<
 
 /// Accepts connections, while each of the threads works. Returns once all of them have ended.
 fn accept_among_workers<
-    H: Threads + Wait + Clock + Sync,
-    S: Alter + Drop + Send,
-    J: ServiceBrand + Send,
-    G: Gate + Sync,
+    C: SharedServing,
     T: Read + Write + OpenStream + Drop + Send,
     L: OpenListener<Stream = T> + Drop + Sync,
 >(
-    rt: &H,
-    alloc: Global,
-    service: &Service<S, J>,
-    gate: &G,
+    context: &ServiceContext<'_, C>,
     entrances: &[Entrance<L>],
     limits: Limits,
     channels: Channels<T>,
-    mut crew: Crew<J>,
-) -> Manned<J>
+    mut crew: Crew<C::Brand>,
+) -> Manned<C::Brand>
     requires { (vec_len crew.threads ≡ 0) × (vec_len crew.shifts ≡ 0) }
     ensures shifts { vec_len result.crew.shifts ≡ 0 }
     ensures all { result.accepting ≢ Accepting.Failed → vec_len result.crew.threads ≡ limits.workers }
@@ -513,14 +460,16 @@ fn accept_among_workers<
         to_workers,
         jobs,
     } = channels;
-    let worker = Worker::new(rt, alloc, service, gate, jobs, limits.idle);
-    let attendant = Attendant::new(rt, alloc, gate, arrivals, to_workers, limits.idle);
+    // The prover keeps what the closure ensures only if it borrows no context.
+    let (rt, gate) = (context.rt, context.gate);
+    let worker = Worker::new(*context, jobs, limits.idle);
+    let attendant = Attendant::new(*context, arrivals, to_workers, limits.idle);
     thread::scope(
         thread::scope_env(),
         rt,
-        |scope| -> Manned<J>
+        |scope| -> Manned<C::Brand>
             requires crew { (vec_len crew.threads ≡ 0) × (vec_len crew.shifts ≡ 0) }
-            requires send { IsSync H.row × IsSend S.row × IsSend J.row × IsSync G.row × IsSend T.row × IsSync L.row }
+            requires send { IsSync C.row × IsSync C.Handle.row × IsSend C.Store.row × IsSend C.Brand.row × IsSync C.Gate.row × IsSend T.row × IsSync L.row }
             ensures { (vec_len result.crew.shifts ≡ 0) × (result.accepting ≢ Accepting.Failed → vec_len result.crew.threads ≡ limits.workers) }
         {
             if !start_workers(scope, worker, limits.workers, &mut crew) {
@@ -547,28 +496,18 @@ fn accept_among_workers<
 /// left. A worker that gets no looker ends, and the others serve on. The memory for the workers' shifts is requested before
 /// they start: if there is none, accepting fails.
 pub fn serve_all<
-    H: Threads + Wait + Clock + Sync,
-    S: Alter + Drop + Send,
-    J: ServiceBrand + Send,
-    G: Gate + Sync,
+    C: SharedServing,
     T: Read + Write + OpenStream + Drop + Send,
     L: OpenListener<Stream = T> + Drop + Sync,
->(
-    rt: &H,
-    alloc: Global,
-    service: &Service<S, J>,
-    gate: &G,
-    entrances: &[Entrance<L>],
-    limits: Limits,
-) -> Worked<J>
+>(context: &ServiceContext<'_, C>, entrances: &[Entrance<L>], limits: Limits) -> Worked<C::Brand>
     ensures { result.end.accepting ≢ Accepting.Failed → result.end.refused ≡ None → vec_len result.shifts ≡ limits.workers }
 {
-    let Ok(channels) = Channels::new(alloc) else {
-        return Worked::failed(alloc);
+    let Ok(channels) = Channels::new(context.alloc) else {
+        return Worked::failed(context.alloc);
     };
-    let Ok(crew) = Crew::new(alloc, limits.workers) else {
-        return Worked::failed(alloc);
+    let Ok(crew) = Crew::new(context.alloc, limits.workers) else {
+        return Worked::failed(context.alloc);
     };
-    let manned = accept_among_workers(rt, alloc, service, gate, entrances, limits, channels, crew);
-    manned.join(rt)
+    let manned = accept_among_workers(context, entrances, limits, channels, crew);
+    manned.join(context.rt)
 }

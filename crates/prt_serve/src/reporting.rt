@@ -1,18 +1,18 @@
 //! The loop that accepts clients that ask for the status, and answers them.
 ghost use Rattle.std.specs.Prelude.{◌≡◌, ◌≢◌, None, vec_len};
+ghost use denote.Param.Send.{IsSend, IsSync};
 
 use crate::accepting::{Accepted, accept_one};
+use crate::context::{ServiceContext, SharedServing};
 use crate::feeding::serve_and_feed;
 use crate::gate::Gate;
 use crate::listen::{Accepting, Entrance, Limits, ServeEnd, Worked, serve_all};
-use prt_service::{Service, ServiceBrand};
-use sqlite::Alter;
 use std::alloc::Global;
 use std::io::{Read, Write};
 use std::net::{OpenListener, OpenStream};
 use std::sync::Wait;
 use std::sync::atomic::{AtomicBool, Ordering};
-use std::thread::{self, Threads};
+use std::thread;
 use std::time::{Clock, Duration};
 
 /// How many seconds the writing of a status may wait for its client.
@@ -48,7 +48,7 @@ fn report<G: Gate, T: Write + OpenStream + Drop>(gate: &G, alloc: Global, mut st
 }
 
 /// Reports the status to each client that comes, one after another, until it has to end.
-fn report_all<H: Wait + Clock, G: Gate, T: Write + OpenStream + Drop, L: OpenListener<Stream = T>>(
+fn report_all<H: Wait + Clock, G: Gate, L: OpenListener<Stream: Write + OpenStream>>(
     rt: &H,
     alloc: Global,
     gate: &G,
@@ -74,27 +74,17 @@ fn report_all<H: Wait + Clock, G: Gate, T: Write + OpenStream + Drop, L: OpenLis
 
 /// Serves sessions, and feeds if there are listeners for that.
 fn serve_or_feed<
-    H: Threads + Wait + Clock + Sync,
-    S: Alter + Drop + Send,
-    J: ServiceBrand + Send,
-    G: Gate + Sync,
+    C: SharedServing,
     T: Read + Write + OpenStream + Drop + Send,
     L: OpenListener<Stream = T> + Drop + Sync,
->(
-    rt: &H,
-    alloc: Global,
-    service: &Service<S, J>,
-    gate: &G,
-    entrances: &Entrances<L>,
-    limits: Limits,
-) -> Worked<J>
+>(context: &ServiceContext<'_, C>, entrances: &Entrances<L>, limits: Limits) -> Worked<C::Brand>
     ensures { result.end.accepting ≢ Accepting.Failed → result.end.refused ≡ None → vec_len result.shifts ≡ limits.workers }
 {
     let (sessions, feeds) = (entrances.sessions.as_slice(), entrances.feeds.as_slice());
     if feeds.is_empty() {
-        serve_all(rt, alloc, service, gate, sessions, limits)
+        serve_all(context, sessions, limits)
     } else {
-        serve_and_feed(rt, alloc, service, gate, sessions, limits, feeds)
+        serve_and_feed(context, sessions, limits, feeds)
     }
 }
 
@@ -104,32 +94,26 @@ fn serve_or_feed<
 /// A client that asks gets the gate's status, and its connection is closed. One thread answers all, and waits 5 seconds for
 /// one of them at most. What they send is not read.
 pub fn serve_entrances<
-    H: Threads + Wait + Clock + Sync,
-    S: Alter + Drop + Send,
-    J: ServiceBrand + Send,
-    G: Gate + Sync,
+    C: SharedServing,
     T: Read + Write + OpenStream + Drop + Send,
     L: OpenListener<Stream = T> + Drop + Sync,
->(
-    rt: &H,
-    alloc: Global,
-    service: &Service<S, J>,
-    gate: &G,
-    entrances: &Entrances<L>,
-    limits: Limits,
-) -> Worked<J>
+>(context: &ServiceContext<'_, C>, entrances: &Entrances<L>, limits: Limits) -> Worked<C::Brand>
     ensures { result.end.accepting ≢ Accepting.Failed → result.end.refused ≡ None → vec_len result.shifts ≡ limits.workers }
 {
     let Some(listener) = &entrances.status else {
-        return serve_or_feed(rt, alloc, service, gate, entrances, limits);
+        return serve_or_feed(context, entrances, limits);
     };
     let is_ended = AtomicBool::new(false);
+    let (own, is_over) = (*context, &is_ended);
     let (reporting, Worked { end, shifts }) = thread::join(
-        rt,
-        || report_all(rt, alloc, gate, listener, &is_ended),
-        || {
-            let worked = serve_or_feed(rt, alloc, service, gate, entrances, limits);
-            is_ended.store(true, Ordering::SeqCst);
+        context.rt,
+        || report_all(own.rt, own.alloc, own.gate, listener, &is_ended),
+        // The prover keeps what a closure ensures only if the closure owns its context.
+        move ||
+            requires { IsSync C.row × IsSync C.Handle.row × IsSend C.Store.row × IsSend C.Brand.row × IsSync C.Gate.row × IsSend T.row × IsSync L.row }
+        {
+            let worked = serve_or_feed(&own, entrances, limits);
+            is_over.store(true, Ordering::SeqCst);
             worked
         },
     );

@@ -2,6 +2,7 @@
 
 use crate::accepting::is_permanent;
 use crate::connection::{Ends, Lines, Replies, ends_over};
+use crate::context::{ServiceContext, Serving};
 use crate::gate::{Gate, Queued};
 use crate::idle::idle_line;
 use crate::worker::{Job, Kind};
@@ -388,25 +389,23 @@ fn time<H: Clock>(rt: &H) -> Duration {
 ///
 /// One whose client sends nothing for longer than `idle` is closed. So is the oldest of 1,024 of them if one more
 /// comes. After each look the gate learns how many wait.
-pub(crate) fn attend<H: Wait + Clock, G: Gate, T: Read + Write + OpenStream + Drop>(
-    rt: &H,
-    alloc: Global,
-    gate: &G,
+pub(crate) fn attend<C: Serving, T: Read + Write + OpenStream + Drop>(
+    context: &ServiceContext<'_, C>,
     arrivals: Receiver<Arrival<T>>,
     jobs: Sender<Connected<T>>,
     idle: Option<Duration>,
 ) {
-    let mut room = Room::new(alloc, idle);
-    for _ in rt.forever() {
-        let came = room.wait(rt, &arrivals);
-        let now = time(rt);
+    let mut room = Room::new(context.alloc, idle);
+    for _ in context.rt.forever() {
+        let came = room.wait(context.rt, &arrivals);
+        let now = time(context.rt);
         let is_closed = matches!(came, Came::Closed);
         if let Came::Guest(guest) = came {
             room.sort_in(guest, now);
         }
         room.look(now);
-        let has_workers = room.hand_over(rt, &jobs, now);
-        gate.queued(room.queued());
+        let has_workers = room.hand_over(context.rt, &jobs, now);
+        context.gate.queued(room.queued());
         if !has_workers || (is_closed && room.is_empty()) {
             break;
         }

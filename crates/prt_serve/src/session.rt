@@ -5,25 +5,21 @@ ghost use Rattle.prt_listing.specs.QueryText.{query_text};
 ghost use Rattle.prt_serve.specs.Serving.{Serves};
 
 use crate::connection::Pipeline;
-use crate::gate::{Gate, Gated};
+use crate::context::{ServiceContext, Serving};
+use crate::gate::Gated;
 use prt_command::{Query, Request};
 use prt_listing::query_text;
-use prt_service::{Looker, Service, ServiceBrand};
+use prt_service::Looker;
 use prt_session::{Executor, OnRefusal, Refusal, Reply, ScriptEnd, Text, run_session};
 use prt_version::Version;
-use sqlite::Alter;
 use std::alloc::Global;
 use std::io::{Read, Write};
 use std::net::SocketAddr;
-use std::sync::Wait;
-use std::time::Clock;
 
 /// Where a looker executes the requests of a session.
 #[derive(Drop)]
-pub struct Visit<'a, H: Wait + Clock, S: Alter + Drop, J: ServiceBrand> {
-    rt: &'a H,
-    alloc: Global,
-    service: &'a Service<S, J>,
+pub struct Visit<'a, C: Serving> {
+    context: ServiceContext<'a, C>,
     /// What the ends of the connection report, if they do.
     pipeline: Option<&'a Pipeline>,
 }
@@ -34,12 +30,9 @@ pub struct Visit<'a, H: Wait + Clock, S: Alter + Drop, J: ServiceBrand> {
 /// # Errors
 ///
 /// Those of `Looker::refresh`; it stays offline, and may know more.
-fn go_online<H: Wait + Clock, S: Alter + Drop, J: ServiceBrand>(
-    visit: &Visit<'_, H, S, J>,
-    looker: &mut Looker,
-) -> Result<(), Refusal>
+fn go_online<C: Serving>(visit: &Visit<'_, C>, looker: &mut Looker) -> Result<(), Refusal>
     requires held { IfSome looker.old.held (λ line. line ≡ looker.old.known) }
-    requires of { (looker.old.known.book ≡ J.book) × (looker.old.known.base ≡ J.base) }
+    requires of { (looker.old.known.book ≡ C.Brand.book) × (looker.old.known.base ≡ C.Brand.base) }
     ensures known { Begins looker.old.known looker.new.known }
     ensures held { MatchResult result (λ _. looker.new.held ≡ Some looker.new.known) (λ _. looker.new.held ≡ None) }
     ensures reason { IfErr result (λ reason. reason ≡ Refusal.NotFetched) }
@@ -47,29 +40,23 @@ fn go_online<H: Wait + Clock, S: Alter + Drop, J: ServiceBrand>(
     if looker.is_online() {
         return Ok(());
     }
-    looker.refresh(visit.rt, visit.service)
+    looker.refresh(visit.context.rt, visit.context.service)
 }
 
 /// Has the looker hold nothing. What it knows stays.
-fn go_offline<H: Wait + Clock, S: Alter + Drop, J: ServiceBrand>(
-    visit: &Visit<'_, H, S, J>,
-    looker: &mut Looker,
-)
-    requires { (looker.old.known.book ≡ J.book) × (looker.old.known.base ≡ J.base) }
+fn go_offline<C: Serving>(visit: &Visit<'_, C>, looker: &mut Looker)
+    requires { (looker.old.known.book ≡ C.Brand.book) × (looker.old.known.base ≡ C.Brand.base) }
     ensures known { looker.new.known ≡ looker.old.known }
     ensures held { looker.new.held ≡ None }
 {
     if looker.is_online() {
-        looker.rest(visit.rt, visit.service);
+        looker.rest(visit.context.rt, visit.context.service);
     }
 }
 
 /// Checks whether the next line is executed before anything waits for the client, the writing of this answer included. That
 /// line came before the version that answered was fetched.
-fn goes_on_after<H: Wait + Clock, S: Alter + Drop, J: ServiceBrand>(
-    visit: &Visit<'_, H, S, J>,
-    answered: &Result<Text, Refusal>,
-) -> bool {
+fn goes_on_after<C: Serving>(visit: &Visit<'_, C>, answered: &Result<Text, Refusal>) -> bool {
     match (visit.pipeline, answered) {
         (Some(pipeline), Ok(text)) => pipeline.goes_on_after(text.as_slice().len()),
         _ => false,
@@ -93,35 +80,34 @@ fn answer_from(alloc: Global, version: &Version, query: &Query) -> Result<Text, 
 /// Answers a query from the version that a looker holds. An answer on a packet is made while it is held, and the looker
 /// stays online for the next line if nothing waits before that. It goes offline before it makes a listing, which may take
 /// long.
-fn answer<H: Wait + Clock, S: Alter + Drop, J: ServiceBrand>(
-    visit: &Visit<'_, H, S, J>,
+fn answer<C: Serving>(
+    visit: &Visit<'_, C>,
     looker: &mut Looker,
     query: &Query,
 ) -> Result<Text, Refusal>
     requires held { looker.old.held ≡ Some looker.old.known }
-    requires of { (looker.old.known.book ≡ J.book) × (looker.old.known.base ≡ J.base) }
+    requires of { (looker.old.known.book ≡ C.Brand.book) × (looker.old.known.base ≡ C.Brand.base) }
     ensures text { IfOk result (λ text. text ≡ query_text (line_state looker.old.known) query.now) }
     ensures reason { IfErr result (λ reason. reason ≡ Refusal.NoMemory) }
     ensures known { looker.new.known ≡ looker.old.known }
     ensures held { IfSome looker.new.held (λ line. line ≡ looker.new.known) }
 {
     if let Query::Get(_) = query {
-        let answered = answer_from(visit.alloc, looker.version(), query);
+        let answered = answer_from(visit.context.alloc, looker.version(), query);
         if !goes_on_after(visit, &answered) {
             go_offline(visit, looker);
         }
         answered
     } else {
-        let version = looker.keep(visit.rt, visit.service);
-        answer_from(visit.alloc, &version, query)
+        let version = looker.keep(visit.context.rt, visit.context.service);
+        answer_from(visit.context.alloc, &version, query)
     }
 }
 
 /// A looker executes requests as the service's guest: it submits each command and learns its receipt, and looks again for a
 /// query, unless it is online still. From one line to the next it stays online only if nothing waits for the client between
 /// them, so a client that doesn't read its replies holds back no version. It is offline while a command is submitted.
-impl<'a, H: Wait + Clock, S: Alter + Drop, J: ServiceBrand> Executor<Visit<'a, H, S, J>>
-    for Looker {
+impl<'a, C: Serving> Executor<Visit<'a, C>> for Looker {
     ghost use Rattle.std.specs.Prelude.{◌≡◌, IfSome};
     ghost use Rattle.prt_published.specs.Line.{Line};
     ghost use Rattle.prt_serve.specs.Requests.{Event, service_may, service_turn};
@@ -141,13 +127,13 @@ impl<'a, H: Wait + Clock, S: Alter + Drop, J: ServiceBrand> Executor<Visit<'a, H
 
     ghost keeps_over_all = { grows_over_all };
 
-    ghost fits = { λ looker. (looker.known.book ≡ J.book) × (looker.known.base ≡ J.base) × IfSome looker.held (λ line. line ≡ looker.known) };
+    ghost fits = { λ looker. (looker.known.book ≡ C.Brand.book) × (looker.known.base ≡ C.Brand.base) × IfSome looker.held (λ line. line ≡ looker.known) };
 
-    fn execute(&mut self, visit: &Visit<'a, H, S, J>, request: &Request) -> Reply {
+    fn execute(&mut self, visit: &Visit<'a, C>, request: &Request) -> Reply {
         match request {
             Request::Command(command) => {
                 go_offline(visit, self);
-                match visit.service.submit(visit.rt, command) {
+                match visit.context.service.submit(visit.context.rt, command) {
                     Ok(receipt) => {
                         let number = receipt.number();
                         self.learn(receipt);
@@ -168,7 +154,7 @@ impl<'a, H: Wait + Clock, S: Alter + Drop, J: ServiceBrand> Executor<Visit<'a, H
         }
     }
 
-    fn pass(&mut self, visit: &Visit<'a, H, S, J>) {
+    fn pass(&mut self, visit: &Visit<'a, C>) {
         go_offline(visit, self);
     }
 }
@@ -177,41 +163,36 @@ impl<'a, H: Wait + Clock, S: Alter + Drop, J: ServiceBrand> Executor<Visit<'a, H
 ///
 /// A query is answered from a version that was fetched after its line had come, and that has what the looker knew; after an
 /// accepted command it learns the receipt. It is online only while nothing waits for the client, and offline at the end.
-/// Only an answer takes memory of `alloc` beside the command's own; if there is none, its query alone is refused. The session
+/// Only an answer takes memory of the context's `alloc` beside the command's own; if there is none, its query alone is refused. The session
 /// ends as `run_session` says; what the gate does beside waiting is no part of it.
 ///
 /// `pipeline` is what the two ends report, if they do. Without it each query is answered from a version of its own.
-pub fn serve_session<H: Wait + Clock, S: Alter + Drop, J: ServiceBrand, G: Gate, R: Read, W: Write>(
-    rt: &H,
-    alloc: Global,
-    service: &Service<S, J>,
+pub fn serve_session<C: Serving, R: Read, W: Write>(
+    context: &ServiceContext<'_, C>,
     looker: &mut Looker,
     session: u64,
     client: SocketAddr,
-    gate: &G,
     pipeline: Option<&Pipeline>,
     reader: &mut R,
     writer: &mut W,
 ) -> ScriptEnd
-    requires { (looker.old.known.book ≡ J.book) × (looker.old.known.base ≡ J.base) }
-    ensures of { (looker.new.known.book ≡ J.book) × (looker.new.known.base ≡ J.base) }
+    requires { (looker.old.known.book ≡ C.Brand.book) × (looker.old.known.base ≡ C.Brand.base) }
+    ensures of { (looker.new.known.book ≡ C.Brand.book) × (looker.new.known.base ≡ C.Brand.base) }
     ensures offline { (looker.new.held ≡ None) × (looker.new.announced ≡ None) }
     ensures served { Serves looker.old.known looker.new.known (R.remaining reader.old) (R.remaining reader.new)
         (W.contents writer.old) (W.contents writer.new) result }
 {
-    looker.rest(rt, service);
+    looker.rest(context.rt, context.service);
     let visit = Visit {
-        rt,
-        alloc,
-        service,
+        context: *context,
         pipeline,
     };
     let mut gated = Gated {
-        gate,
+        gate: context.gate,
         session,
         client,
     };
     let end = run_session(&visit, looker, reader, writer, OnRefusal::GoOn, &mut gated);
-    looker.rest(rt, service);
+    looker.rest(context.rt, context.service);
     end
 }

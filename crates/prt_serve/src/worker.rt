@@ -8,16 +8,15 @@ ghost use Rattle.prt_serve.specs.Together.{ServesTogether};
 
 use crate::atomic::{FileServed, serve_atomic, turn_away};
 use crate::connection::Pipeline;
+use crate::context::{ServiceContext, Serving};
 use crate::gate::Gate;
 use crate::session::serve_session;
 use crate::shift::Shift;
-use prt_service::{Looker, Service, ServiceBrand};
+use prt_service::Looker;
 use prt_session::{Refusal, ScriptEnd};
-use sqlite::Alter;
-use std::alloc::Global;
 use std::io::{Read, Write};
 use std::net::SocketAddr;
-use std::sync::{Arc, Wait};
+use std::sync::Arc;
 use std::time::{Clock, Duration};
 
 /// How the commands of a connection are made.
@@ -55,43 +54,30 @@ pub struct Served<R: Read + Drop, W: Write + Drop> {
 
 /// Serves the session of a job, as `serve_session` does: its lines are read from the job's own reader, and its replies go
 /// to the job's own writer.
-fn serve_job<
-    H: Wait + Clock,
-    S: Alter + Drop,
-    J: ServiceBrand,
-    G: Gate,
-    R: Read + Drop,
-    W: Write + Drop,
->(
-    rt: &H,
-    alloc: Global,
-    service: &Service<S, J>,
+fn serve_job<C: Serving, R: Read + Drop, W: Write + Drop>(
+    context: &ServiceContext<'_, C>,
     looker: &mut Looker,
     job: &mut Job<R, W>,
-    gate: &G,
 ) -> ScriptEnd
-    requires { (looker.old.known.book ≡ J.book) × (looker.old.known.base ≡ J.base) }
-    ensures of { (looker.new.known.book ≡ J.book) × (looker.new.known.base ≡ J.base) }
+    requires { (looker.old.known.book ≡ C.Brand.book) × (looker.old.known.base ≡ C.Brand.base) }
+    ensures of { (looker.new.known.book ≡ C.Brand.book) × (looker.new.known.base ≡ C.Brand.base) }
     ensures offline { (looker.new.held ≡ None) × (looker.new.announced ≡ None) }
     ensures session { job.new.session ≡ job.old.session }
     ensures kind { job.new.kind ≡ job.old.kind }
     ensures served { Serves looker.old.known looker.new.known (R.remaining job.old.reader) (R.remaining job.new.reader)
         (W.contents job.old.writer) (W.contents job.new.writer) result }
 {
-    gate.begins(job.session);
+    context.gate.begins(job.session);
     let end = serve_session(
-        rt,
-        alloc,
-        service,
+        context,
         looker,
         job.session,
         job.client,
-        gate,
         job.pipeline.as_deref(),
         &mut job.reader,
         &mut job.writer,
     );
-    gate.ends(job.session);
+    context.gate.ends(job.session);
     end
 }
 
@@ -105,23 +91,13 @@ fn is_past<H: Clock>(rt: &H, until: Option<Duration>) -> bool {
 
 /// Serves the atomic file of a job, as `serve_atomic` does. If it is too late to begin, nothing of it is made, as if it
 /// could not be read.
-fn serve_together<
-    H: Wait + Clock,
-    S: Alter + Drop,
-    J: ServiceBrand,
-    G: Gate,
-    R: Read + Drop,
-    W: Write + Drop,
->(
-    rt: &H,
-    alloc: Global,
-    service: &Service<S, J>,
+fn serve_together<C: Serving, R: Read + Drop, W: Write + Drop>(
+    context: &ServiceContext<'_, C>,
     looker: &mut Looker,
     job: Job<R, W>,
-    gate: &G,
 ) -> Served<R, W>
-    requires { (looker.old.known.book ≡ J.book) × (looker.old.known.base ≡ J.base) }
-    ensures of { (looker.new.known.book ≡ J.book) × (looker.new.known.base ≡ J.base) }
+    requires { (looker.old.known.book ≡ C.Brand.book) × (looker.old.known.base ≡ C.Brand.base) }
+    ensures of { (looker.new.known.book ≡ C.Brand.book) × (looker.new.known.base ≡ C.Brand.base) }
     ensures offline { (looker.new.held ≡ None) × (looker.new.announced ≡ None) }
     ensures grows { Begins looker.old.known looker.new.known }
     ensures session { result.job.session ≡ job.session }
@@ -138,32 +114,13 @@ fn serve_together<
         mut writer,
         pipeline,
     } = job;
-    gate.begins(session);
-    let FileServed { end, reader } = if is_past(rt, until) {
-        turn_away(
-            rt,
-            service,
-            looker,
-            session,
-            client,
-            gate,
-            reader,
-            &mut writer,
-        )
+    context.gate.begins(session);
+    let FileServed { end, reader } = if is_past(context.rt, until) {
+        turn_away(context, looker, session, client, reader, &mut writer)
     } else {
-        serve_atomic(
-            rt,
-            alloc,
-            service,
-            looker,
-            session,
-            client,
-            gate,
-            reader,
-            &mut writer,
-        )
+        serve_atomic(context, looker, session, client, reader, &mut writer)
     };
-    gate.ends(session);
+    context.gate.ends(session);
     Served {
         job: Job {
             session,
@@ -181,28 +138,17 @@ fn serve_together<
 /// Serves jobs until no more come, each with all that the looker learned from those before. A fault ends its own session
 /// alone. Passes each job to `after` once its session has ended. Returns how many it served, as far as 64 bits count them.
 fn serve_jobs<
-    H: Wait + Clock,
-    S: Alter + Drop,
-    J: ServiceBrand,
-    G: Gate,
+    C: Serving,
     R: Read + Drop,
     W: Write + Drop,
     I: Iterator<Item = Job<R, W>>,
     F: FnMut(Served<R, W>),
->(
-    rt: &H,
-    alloc: Global,
-    service: &Service<S, J>,
-    looker: &mut Looker,
-    jobs: I,
-    gate: &G,
-    mut after: F,
-) -> u64
-    requires of { (looker.old.known.book ≡ J.book) × (looker.old.known.base ≡ J.base) }
+>(context: &ServiceContext<'_, C>, looker: &mut Looker, jobs: I, mut after: F) -> u64
+    requires of { (looker.old.known.book ≡ C.Brand.book) × (looker.old.known.base ≡ C.Brand.base) }
     requires can { I.can_next jobs }
     requires ends { IsFinite (I.remaining jobs) }
     requires callable { F.IsAlwaysCallable after }
-    ensures of { (looker.new.known.book ≡ J.book) × (looker.new.known.base ≡ J.base) }
+    ensures of { (looker.new.known.book ≡ C.Brand.book) × (looker.new.known.base ≡ C.Brand.base) }
     ensures grows { Begins looker.old.known looker.new.known }
     ensures served { ServesCounted I.next_gives R.remaining W.contents (λ to left later. F.step to left tt later) jobs looker.old.known after looker.new.known result }
 {
@@ -211,10 +157,10 @@ fn serve_jobs<
         served = served.saturating_add(1);
         match job.kind {
             Kind::InTurn => {
-                let end = serve_job(rt, alloc, service, looker, &mut job, gate);
+                let end = serve_job(context, looker, &mut job);
                 after(Served { job, end });
             }
-            Kind::Together => after(serve_together(rt, alloc, service, looker, job, gate)),
+            Kind::Together => after(serve_together(context, looker, job)),
         }
     }
     served
@@ -222,31 +168,20 @@ fn serve_jobs<
 
 /// Serves jobs until no more come, with a looker that then leaves.
 fn work_with<
-    H: Wait + Clock,
-    S: Alter + Drop,
-    J: ServiceBrand,
-    G: Gate,
+    C: Serving,
     R: Read + Drop,
     W: Write + Drop,
     I: Iterator<Item = Job<R, W>>,
     F: FnMut(Served<R, W>),
->(
-    rt: &H,
-    alloc: Global,
-    service: &Service<S, J>,
-    mut looker: Looker,
-    jobs: I,
-    gate: &G,
-    after: F,
-) -> Shift<J>
-    requires of { (looker.known.book ≡ J.book) × (looker.known.base ≡ J.base) }
+>(context: &ServiceContext<'_, C>, mut looker: Looker, jobs: I, after: F) -> Shift<C::Brand>
+    requires of { (looker.known.book ≡ C.Brand.book) × (looker.known.base ≡ C.Brand.base) }
     requires can { I.can_next jobs }
     requires ends { IsFinite (I.remaining jobs) }
     requires callable { F.IsAlwaysCallable after }
     ensures served { ServesCounted I.next_gives R.remaining W.contents (λ to left later. F.step to left tt later) jobs looker.known after result.known result.served }
 {
-    let served = serve_jobs(rt, alloc, service, &mut looker, jobs, gate, after);
-    Shift::new(looker.leave(rt, service), served)
+    let served = serve_jobs(context, &mut looker, jobs, after);
+    Shift::new(looker.leave(context.rt, context.service), served)
 }
 
 /// Serves jobs until no more come, with a looker of its own, which then leaves. Passes each job to `after` once its session
@@ -256,32 +191,22 @@ fn work_with<
 ///
 /// `Full` if the service has no looker left; no job is taken then.
 pub fn work<
-    H: Wait + Clock,
-    S: Alter + Drop,
-    J: ServiceBrand,
-    G: Gate,
+    C: Serving,
     R: Read + Drop,
     W: Write + Drop,
     I: Iterator<Item = Job<R, W>>,
     F: FnMut(Served<R, W>),
->(
-    rt: &H,
-    alloc: Global,
-    service: &Service<S, J>,
-    jobs: I,
-    gate: &G,
-    after: F,
-) -> Result<Shift<J>, Refusal>
+>(context: &ServiceContext<'_, C>, jobs: I, after: F) -> Result<Shift<C::Brand>, Refusal>
     requires can { I.can_next jobs }
     requires ends { IsFinite (I.remaining jobs) }
     requires callable { F.IsAlwaysCallable after }
-    ensures served { IfOk result (λ left. (known : Line) × (known.book ≡ J.book) × (known.base ≡ J.base) × ServesAll I.next_gives R.remaining W.contents (λ to left later. F.step to left tt later) jobs known after left.known) }
+    ensures served { IfOk result (λ left. (known : Line) × (known.book ≡ C.Brand.book) × (known.base ≡ C.Brand.base) × ServesAll I.next_gives R.remaining W.contents (λ to left later. F.step to left tt later) jobs known after left.known) }
     ensures counted { IfOk result (λ left. (served : List (Job R W)) × Drains I.next_gives jobs served × (left.served ≡ min (length served) (2 ^ 64 - 1))) }
     ensures reason { IfErr result (λ reason. reason ≡ Refusal.Full) }
 {
-    let looker = match service.looker(rt) {
+    let looker = match context.service.looker(context.rt) {
         Ok(looker) => looker,
         Err(reason) => return Err(reason),
     };
-    Ok(work_with(rt, alloc, service, looker, jobs, gate, after))
+    Ok(work_with(context, looker, jobs, after))
 }

@@ -1,4 +1,4 @@
-use Rattle.prt_serve.proofs.Serving.{shows_path}
+use Rattle.prt_serve.proofs.Sessions.{shows_path}
 use Rattle.prt_serve.proofs.laws.shows.Goals as goal
 
 pub returns : goal.returns

@@ -2,7 +2,7 @@ use Rattle.std.proofs.Common.{◌≡◌, ap, refl, subst, sym, ◌∙◌}
 use Rattle.prt_published.specs.Line.{Line}
 use Rattle.prt_serve.specs.Requests.{service_may, service_turn}
 use Rattle.prt_serve.specs.Serving.{Serves}
-use Rattle.prt_serve.proofs.Serving.{shows_path}
+use Rattle.prt_serve.proofs.Sessions.{shows_path}
 use Rattle.prt_service.specs.Look.{Look}
 use Rattle.prt_session.proofs.Length.{session_taken}
 use Rattle.prt_session.specs.Run.{RunIs}
