@@ -6,7 +6,7 @@ use crate::service::{adopted, service_over};
 use prt_command::Refusal;
 use prt_grace::Domain;
 use prt_publisher::Publisher;
-use prt_serve::{OpenGate, serve_session};
+use prt_serve::{OpenGate, ServiceContext, serve_session};
 use prt_service::{Service, ServiceBrand};
 use sqlite::{Alter, Connection};
 use std::alloc::Global;
@@ -30,14 +30,12 @@ fn serve<J: ServiceBrand, S: Alter + Drop, H: Wait + Clock + Copy + Drop, R: Rea
 {
     let service: Service<S, J> = service_over(&rt, publisher, domain)?;
     let mut looker = service.looker(&rt)?;
+    let context = ServiceContext::new(&rt, alloc, &service, &OpenGate);
     let end = serve_session(
-        &rt,
-        alloc,
-        &service,
+        &context,
         &mut looker,
         1,
         SocketAddr::from((Ipv4Addr::UNSPECIFIED, 0)),
-        &OpenGate,
         None,
         input,
         output,

@@ -7,7 +7,7 @@ use crate::caller::{adopted, service_over};
 use prt_command::Refusal;
 use prt_grace::Domain;
 use prt_publisher::Publisher;
-use prt_serve::{OpenGate, serve_atomic};
+use prt_serve::{OpenGate, ServiceContext, serve_atomic};
 use prt_service::{Looker, Service, ServiceBrand};
 use sqlite::{Alter, Connection};
 use std::alloc::Global;
@@ -30,9 +30,8 @@ fn replies<S: Alter + Drop, J: ServiceBrand, H: Wait + Clock>(
 {
     let mut text = Vec::new(alloc);
     let client = SocketAddr::from((Ipv4Addr::LOCALHOST, 0));
-    let _served = serve_atomic(
-        rt, alloc, service, looker, 1, client, &OpenGate, file, &mut text,
-    );
+    let context = ServiceContext::new(rt, alloc, service, &OpenGate);
+    let _served = serve_atomic(&context, looker, 1, client, file, &mut text);
     text
 }
 

@@ -7,7 +7,9 @@ use crossbeam_channel::bounded;
 use prt_command::Refusal;
 use prt_grace::Domain;
 use prt_publisher::Publisher;
-use prt_serve::{Accepting, Entrance, Kind, Limits, OpenGate, Turnstile, accept, serve_all};
+use prt_serve::{
+    Accepting, Entrance, Kind, Limits, OpenGate, ServiceContext, Turnstile, accept, serve_all,
+};
 use prt_service::{Service, ServiceBrand};
 use sqlite::{Alter, Connection};
 use std::alloc::{AllocError, Global};
@@ -177,7 +179,8 @@ fn serve_without_looker<
             return Err(Refusal::NoMemory);
         }
     }
-    let end = serve_all(rt, alloc, &service, &OpenGate, entrances, limited_to(0)).end;
+    let context = ServiceContext::new(rt, alloc, &service, &OpenGate);
+    let end = serve_all(&context, entrances, limited_to(0)).end;
     match end.accepting {
         Accepting::NoWorkers => Ok(end.refused),
         Accepting::Ended | Accepting::Failed => Ok(None),

@@ -7,7 +7,7 @@ use crossbeam_channel::{Receiver, Sender, bounded};
 use prt_command::Refusal;
 use prt_grace::Domain;
 use prt_publisher::Publisher;
-use prt_serve::{Gate, Job, Kind, Served, work};
+use prt_serve::{Gate, Job, Kind, Served, ServiceContext, work};
 use prt_service::{Service, ServiceBrand};
 use prt_session::Reply;
 use sqlite::{Alter, Connection};
@@ -125,7 +125,8 @@ fn serve_jobs<H: Wait + Clock + Copy + Drop, S: Alter + Drop, J: ServiceBrand>(
     jobs: Receiver<Job<&'static [u8], Client<H>>>,
     gate: &Meeting,
 ) -> Option<Refusal> {
-    match work(rt, alloc, service, jobs.iter(rt), gate, let_go) {
+    let context = ServiceContext::new(rt, alloc, service, gate);
+    match work(&context, jobs.iter(rt), let_go) {
         Ok(_) => None,
         Err(reason) => Some(reason),
     }

@@ -6,7 +6,7 @@ use crate::caller::{adopted, service_over, submit_to_service};
 use prt_command::Refusal;
 use prt_grace::Domain;
 use prt_publisher::Publisher;
-use prt_serve::{Gate, Kind, ends_over, serve_session};
+use prt_serve::{Gate, Kind, ServiceContext, ends_over, serve_session};
 use prt_service::{Service, ServiceBrand};
 use prt_session::Reply;
 use sqlite::{Alter, Connection};
@@ -132,14 +132,12 @@ fn serve<J: ServiceBrand, S: Alter + Drop, H: Wait + Clock + Copy + Drop>(
     let mut ends = ends_over(alloc, from, to, Kind::InTurn)?;
     let lent = &mut ends;
     let client = SocketAddr::from((Ipv4Addr::LOCALHOST, 0));
+    let context = ServiceContext::new(rt, alloc, service, &gate);
     let _end = serve_session(
-        rt,
-        alloc,
-        service,
+        &context,
         &mut looker,
         1,
         client,
-        &gate,
         Some(&*lent.pipeline),
         &mut lent.lines,
         &mut lent.replies,
