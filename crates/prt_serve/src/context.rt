@@ -24,8 +24,8 @@ pub trait Serving {
     type Gate: Gate;
 }
 
-/// The types of what several threads serve sessions with. It is `Sync` itself, since the prover has no closure sent to a
-/// thread that is generic over a type which isn't.
+/// The types of what several threads serve sessions with. What names them is `Sync` too: otherwise the prover lets no
+/// closure go to a thread that is generic over it.
 pub trait SharedServing: Serving<Handle: Threads + Sync, Store: Send, Brand: Send, Gate: Sync>
     + Sync {}
 
