@@ -2,8 +2,8 @@
 use Rattle.std.specs.Prelude.{◌≡◌, ◌≢◌, ◌⊎◌, ℕ, List, true, codes, Option, Some}
 use Rattle.sqlite.specs.Held.{Held}
 use Rattle.prt_rows.specs.Format.{has_table}
-use Rattle.prt_questions.specs.declared.database_opener.Wanted.{Wanted}
-use Rattle.prt_questions.specs.declared.database_opener.Wanted.TheVariants.{Any, Ours}
+use Rattle.prt_machine.specs.declared.database_opener.Wanted.{Wanted}
+use Rattle.prt_machine.specs.declared.database_opener.Wanted.TheVariants.{Any, Ours}
 
 -- the system said that the file at a path has a byte at least
 abbrev pub IsThere : {K : Type 0} → (has_size : K → List ℕ → Option ℕ → Type 0) → K → List ℕ → Type 0

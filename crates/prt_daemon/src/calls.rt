@@ -1,7 +1,7 @@
 //! The calls of the system and of the library by which a machine handles its database files.
 ghost use Rattle.std.specs.Prelude.{IfOk, OnErr};
 
-use prt_host::Wanted;
+use prt_machine::Wanted;
 use sqlite::{Connection, Error, File, FileStore};
 use std::fs::{self, OpenOptions};
 use std::io;
@@ -50,9 +50,9 @@ pub(crate) trait Calls<C> {
 }
 
 /// The calls of this host. They alone touch real files.
-#[derive(Clone, Copy)]
-pub(crate) struct HostCalls<'a> {
-    pub(crate) host: &'a HostRuntime,
+#[derive(Clone, Copy, Drop)]
+pub(crate) struct HostCalls {
+    pub(crate) host: HostRuntime,
 }
 
 /// Asks the system why there is no new file at a path. One that it makes is removed again.
@@ -70,7 +70,7 @@ fn reason_for_none(host: &HostRuntime, path: &str) -> Option<io::Error> {
     }
 }
 
-impl<'a> Calls<Connection<FileStore<File>>> for HostCalls<'a> {
+impl Calls<Connection<FileStore<File>>> for HostCalls {
     ghost use Rattle.std.specs.Prelude.{⊤};
     ghost use Rattle.sqlite.specs.Files.{IsOpened, file_state};
     ghost use Rattle.sqlite.specs.State.{HasCleanDisk};
@@ -85,12 +85,12 @@ impl<'a> Calls<Connection<FileStore<File>>> for HostCalls<'a> {
     ghost closes = { λ _ _ _. ⊤ };
 
     fn size_of(&self, path: &str) -> Option<u64> {
-        let metadata = fs::metadata(self.host, path).ok()?;
+        let metadata = fs::metadata(&self.host, path).ok()?;
         Some(metadata.len())
     }
 
     fn open(&mut self, path: &str) -> Result<Connection<FileStore<File>>, Error> {
-        Connection::open(self.host, path)
+        Connection::open(&self.host, path)
     }
 
     fn close(&mut self, conn: Connection<FileStore<File>>) -> Result<(), Error>
@@ -103,13 +103,13 @@ impl<'a> Calls<Connection<FileStore<File>>> for HostCalls<'a> {
         let error = match OpenOptions::new()
             .read(true)
             .write(true)
-            .open(self.host, path)
+            .open(&self.host, path)
         {
             Ok(_) => return None,
             Err(error) => error,
         };
         match (wanted, error.kind()) {
-            (Wanted::Any, io::ErrorKind::NotFound) => reason_for_none(self.host, path),
+            (Wanted::Any, io::ErrorKind::NotFound) => reason_for_none(&self.host, path),
             _ => Some(error),
         }
     }

@@ -1,10 +1,10 @@
 //! The machine that `prt` runs on.
 ghost use Rattle.std.specs.Prelude.{IfOk, OnErr, OnOk};
 ghost use Rattle.prt_daemon.specs.Openings.{IsThere, Opens, Refuses};
-ghost use Rattle.prt_questions.specs.declared.database_opener.Wanted.TheVariants.{Ours};
+ghost use Rattle.prt_machine.specs.declared.database_opener.Wanted.TheVariants.{Ours};
 
 use crate::calls::Calls;
-use prt_host::{DatabaseOpener, Wanted};
+use prt_machine::{DatabaseOpener, Wanted};
 use prt_rows::has_table;
 use sqlite::{Alter, Connection, Error, ErrorCode};
 use std::io;

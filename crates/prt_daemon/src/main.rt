@@ -7,42 +7,53 @@ mod machine;
 use calls::HostCalls;
 use machine::ThisMachine;
 use prt_args::{report, words_fault};
-use prt_host::{DatabaseFiles, DatabaseOpener, Measures, ServerNet, run};
-use prt_program::{ErrorKeeping, ReadFiles};
-use sqlite::{Alter, Connection};
+use prt_host::run;
+use prt_machine::{DatabaseFiles, Host, ServerNet, Streams};
+use prt_program::ErrorKeeping;
+use sqlite::{File, FileStore};
 use std::alloc::Global;
-use std::io::{IsTerminal, Read, Write};
+use std::io::{Stderr, Stdin, Stdout};
+use std::marker::PhantomData;
 use std::process::ExitCode;
 use std::rt::Clock;
 use std::sync::Wait;
 use std::thread::Threads;
 use std::{env, io};
 
+/// This machine, with its files and streams. What threads start by is the parameter `N`, since only `main` has it.
+struct ThisHost<N> {
+    net: PhantomData<N>,
+}
+
+impl<N> Streams for ThisHost<N> {
+    type Files = HostRuntime;
+
+    type Input = ErrorKeeping<Stdin>;
+
+    type Output = ErrorKeeping<Stdout>;
+
+    type Errors = Stderr;
+}
+
+impl<N: ServerNet + Threads + Wait + Clock + Copy + Drop + Send + Sync> Host for ThisHost<N> {
+    type Store = FileStore<File>;
+
+    type Opener = ThisMachine<HostCalls>;
+
+    type Net = N;
+}
+
 /// Runs the program over the databases of a machine, with these streams, and returns its exit status. It has no clause, as
 /// `main` has none: so `main` isn't proved over all that `run` says of this machine.
-fn run_over<
-    S: Alter + Drop + Send,
-    M: DatabaseOpener<Connection<S>> + Drop,
-    F: ReadFiles + Measures + Clock + Drop + Sync,
-    N: ServerNet + Threads + Wait + Clock + Copy + Drop + Send + Sync,
-    R: Read + Drop,
-    W: Write + IsTerminal + Drop,
-    E: Write + IsTerminal + Drop + Send,
->(
-    databases: &mut DatabaseFiles<'_, S, M, F, N>,
+fn run_over<H: Host>(
+    databases: &mut DatabaseFiles<'_, H>,
     alloc: Global,
     words: &[String],
-    input: R,
-    output: W,
-    errors: E,
-) -> u8
-where
-    N::Stream: Send,
-    N::Door: Sync,
-{
-    let mut input = ErrorKeeping::new(input);
-    let mut output = ErrorKeeping::new(output);
-    run(databases, alloc, words, &mut input, &mut output, errors)
+    input: &mut H::Input,
+    output: &mut H::Output,
+    errors: H::Errors,
+) -> u8 {
+    run(databases, alloc, words, input, output, errors)
 }
 
 /// Collects the words of the command line.
@@ -61,9 +72,23 @@ fn main(rt: HostRuntime) -> ExitCode {
             return ExitCode::from(report(&fault, &mut rt.stdout(), &mut rt.stderr()));
         }
     };
-    let calls = HostCalls { host: &rt };
-    let mut databases = DatabaseFiles::new(ThisMachine { calls }, &rt, rt);
-    let (input, output, errors) = (rt.stdin(), rt.stdout(), rt.stderr());
-    let status = run_over(&mut databases, alloc, &words, input, output, errors);
+    let mut databases: DatabaseFiles<'_, ThisHost<HostRuntime>> = DatabaseFiles {
+        machine: ThisMachine {
+            calls: HostCalls { host: rt },
+        },
+        files: &rt,
+        rt,
+    };
+    let mut input = ErrorKeeping::new(rt.stdin());
+    let mut output = ErrorKeeping::new(rt.stdout());
+    let errors = rt.stderr();
+    let status = run_over(
+        &mut databases,
+        alloc,
+        &words,
+        &mut input,
+        &mut output,
+        errors,
+    );
     ExitCode::from(status)
 }

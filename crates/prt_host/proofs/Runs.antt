@@ -5,6 +5,7 @@ use Rattle.sqlite.specs.State.{HasCleanDisk}
 use Rattle.sqlite.specs.Store.{Ghosts}
 use Rattle.prt_addr.specs.Word.{Word}
 use Rattle.prt_refusals.specs.declared.refusal.Refusal.{Refusal}
+use Rattle.prt_machine.specs.declared.database_opener.DatabaseOpener.{Ghosts as Opener}
 use Rattle.prt_desk.proofs.Kept.{durable_is, shows}
 use Rattle.prt_desk.specs.StoreDesk.{IsKept, MayBeStored, desk_with}
 use Rattle.prt_program.specs.Program.{LeavesDatabases, Runs, RunsNothing, Streams}
@@ -23,27 +24,26 @@ use Rattle.prt_args.specs.declared.fault.Fault.{Fault}
 use Rattle.prt_args.specs.declared.fault.TheConstants.{DONE, FAULT}
 use Rattle.prt_args.specs.declared.server_place.ServerPlace.{ServerPlace}
 use Rattle.prt_args.specs.declared.serving.ServeArgs.{ServeArgs}
-use Rattle.prt_questions.specs.Closing.{LeavesNoneOpen}
+use Rattle.prt_machine.specs.Closing.{LeavesNoneOpen}
 use Rattle.prt_host.specs.Runs.{AskedIsFound, Asks, FindsAgain, RunBegins, RunIsFound, RunsPrt, Serves, ServiceIsFound, Submits, is_misused, is_stopped, runs, tells}
 use Rattle.prt_host.specs.Serving.{IsNotServed, IsServed, IsServedBy}
 use Rattle.prt_questions.specs.Sources.{Sources}
 use Rattle.prt_questions.specs.Submitting.{IsAllMade, IsSubmitted}
-use Rattle.prt_questions.specs.declared.database_opener.Wanted.{Wanted}
-use Rattle.prt_questions.specs.declared.database_opener.Wanted.TheVariants.{Any}
-use Rattle.prt_questions.proofs.Alone.{RunsRound, runs_alone, runs_nothing_alone}
+use Rattle.prt_machine.specs.declared.database_opener.Wanted.TheVariants.{Any}
+use Rattle.prt_host.proofs.Alone.{RunsRound, runs_alone, runs_nothing_alone}
 
 -- ---- how a run ends
 
-module _ {D M S : Type 0} (g : Ghosts S) (opens : Wanted → M → M → List ℕ → Held S → Type 0) (closes : M → M → Held S → Type 0) (old new : D) (machine : D → M) where
-  pub exit_alone : (refuses : Wanted → M → M → List ℕ → Type 0) {File : Type 0} (opened : Word → File → Type 0) (bytes : File → Option (List ℕ)) (from : Sources) (asked : Invocation) (streams : Streams) (status : ℕ)
-      → Runs opened bytes (RunsRound g (opens Any) closes old new machine) asked streams status ⊎ RunsNothing (λ (old new : D) path reason. LeavesNoneOpen (opens Any) (refuses Any) closes g reason (machine old) (machine new) path) old new asked streams.output_before streams.output_after status
-      → LeavesDatabases asked old new → RunsPrt g opens refuses closes (machine old) (machine new) opened bytes from asked streams status
-  exit_alone refuses opened bytes from asked streams status (inl ran) left = runs (runs_alone g (opens Any) closes old new machine opened bytes asked streams status ran) (λ none. ap machine (left none))
-  exit_alone refuses opened bytes from asked streams status (inr nothing) left =
-      go (runs_nothing_alone g (opens Any) closes old new machine (λ old new path reason. LeavesNoneOpen (opens Any) (refuses Any) closes g reason old new path) asked streams.output_before streams.output_after status nothing)
+module _ {D M S : Type 0} (g : Ghosts S) (by : Opener M (Held S)) (old new : D) (machine : D → M) where
+  pub exit_alone : {File : Type 0} (opened : Word → File → Type 0) (bytes : File → Option (List ℕ)) (from : Sources) (asked : Invocation) (streams : Streams) (status : ℕ)
+      → Runs opened bytes (RunsRound g by old new machine) asked streams status ⊎ RunsNothing (λ (old new : D) path reason. LeavesNoneOpen g by Any reason (machine old) (machine new) path) old new asked streams.output_before streams.output_after status
+      → LeavesDatabases asked old new → RunsPrt g by (machine old) (machine new) opened bytes from asked streams status
+  exit_alone opened bytes from asked streams status (inl ran) left = runs (runs_alone g by old new machine opened bytes asked streams status ran) (λ none. ap machine (left none))
+  exit_alone opened bytes from asked streams status (inr nothing) left =
+      go (runs_nothing_alone g by old new machine (λ old new path reason. LeavesNoneOpen g by Any reason old new path) asked streams.output_before streams.output_after status nothing)
     where
-      go : RunsNothing (λ (old new : M) path reason. LeavesNoneOpen (opens Any) (refuses Any) closes g reason old new path) (machine old) (machine new) asked streams.output_before streams.output_after status
-          → RunsPrt g opens refuses closes (machine old) (machine new) opened bytes from asked streams status
+      go : RunsNothing (λ (old new : M) path reason. LeavesNoneOpen g by Any reason old new path) (machine old) (machine new) asked streams.output_before streams.output_after status
+          → RunsPrt g by (machine old) (machine new) opened bytes from asked streams status
       go (inl told) = tells told
       go (inr (inl misused)) = is_misused misused
       go (inr (inr stopped)) = is_stopped stopped
@@ -54,12 +54,12 @@ pub same_at : {D M : Type 0} (old new : D) (machine : D → M) → new ≡ old �
 same_at old new machine same = ap machine same
 
 -- a question was answered from what it was handed, which is what the program was
-pub asks_from : {D M S : Type 0} (g : Ghosts S) (opens : Wanted → M → M → List ℕ → Held S → Type 0) (refuses : Wanted → M → M → List ℕ → Type 0) (closes : M → M → Held S → Type 0) (old new : M) (words : List Word)
+pub asks_from : {D M S : Type 0} (g : Ghosts S) (by : Opener M (Held S)) (old new : M) (words : List Word)
     (before after : D) → after ≡ before → (input0 input : Option (List ℕ)) → input ≡ input0 → (from : D → Option (List ℕ) → Sources) (writer0 writer : Option (List ℕ)) (status : ℕ)
-    → Asks g opens refuses closes old new words (from after input) writer0 writer status → Asks g opens refuses closes old new words (from before input0) writer0 writer status
-asks_from {D} g opens refuses closes old new words before after same input0 input unread from writer0 writer status ended =
-    subst (λ (d : D). Asks g opens refuses closes old new words (from d input0) writer0 writer status) same
-    (subst (λ (i : Option (List ℕ)). Asks g opens refuses closes old new words (from after i) writer0 writer status) unread ended)
+    → Asks g by old new words (from after input) writer0 writer status → Asks g by old new words (from before input0) writer0 writer status
+asks_from {D} g by old new words before after same input0 input unread from writer0 writer status ended =
+    subst (λ (d : D). Asks g by old new words (from d input0) writer0 writer status) same
+    (subst (λ (i : Option (List ℕ)). Asks g by old new words (from after i) writer0 writer status) unread ended)
 
 -- a script was sent from what it was handed, which is what the program was
 pub submits_from : {D : Type 0} (script : Submission) (place : ServerPlace) → IsPlace script.server place → (before after : D) → after ≡ before → (input0 input : Option (List ℕ)) → input ≡ input0
@@ -73,28 +73,28 @@ submits_from {D} script place named before after same input0 input unread from w
 
 -- ---- a server that ended with a fault
 
-pub not_served : {M S : Type 0} (g : Ghosts S) (opens : M → M → List ℕ → Held S → Type 0) (refuses : M → M → List ℕ → Type 0) (closes : M → M → Held S → Type 0) (old new : M) (path : List ℕ) (fault : Fault)
-    → IsNotServed opens refuses closes g old new path fault → ((reason : Refusal) × LeavesNoneOpen opens refuses closes g reason old new path) ⊎ IsServed opens closes g old new path
-not_served g opens refuses closes old new path fault (inl none) = inl (none.0, none.2)
-not_served g opens refuses closes old new path fault (inr served) = inr served.0
+pub not_served : {M S : Type 0} (g : Ghosts S) (by : Opener M (Held S)) (old new : M) (path : List ℕ) (fault : Fault)
+    → IsNotServed g by old new path fault → ((reason : Refusal) × LeavesNoneOpen g by Any reason old new path) ⊎ IsServed g by old new path
+not_served g by old new path fault (inl none) = inl (none.0, none.2)
+not_served g by old new path fault (inr served) = inr served.0
 
-module _ {M S : Type 0} (g : Ghosts S) (opens : Wanted → M → M → List ℕ → Held S → Type 0) (refuses : Wanted → M → M → List ℕ → Type 0) (closes : M → M → Held S → Type 0) (mid old new : M) (same : mid ≡ old) where
+module _ {M S : Type 0} (g : Ghosts S) (by : Opener M (Held S)) (mid old new : M) (same : mid ≡ old) where
   -- what was done after the words were read was done from the start on, since no database was touched before
-  pub has_served : (words : List Word) (serving : ServeArgs) (status : ℕ) → IsServiceIn words serving → IsServing serving → (status ≡ DONE → IsServedBy (opens Any) closes g serving.workers mid new serving.database.now) → (status ≢ DONE → status ≡ FAULT)
-      → (status ≢ DONE → (fault : Fault) × IsNotServed (opens Any) (refuses Any) closes g mid new serving.database.now fault) → Serves g opens refuses closes old new words status
+  pub has_served : (words : List Word) (serving : ServeArgs) (status : ℕ) → IsServiceIn words serving → IsServing serving → (status ≡ DONE → IsServedBy g by serving.workers mid new serving.database.now) → (status ≢ DONE → status ≡ FAULT)
+      → (status ≢ DONE → (fault : Fault) × IsNotServed g by mid new serving.database.now fault) → Serves g by old new words status
   has_served words serving status named limits done fault why =
-      let ended : Serves g opens refuses closes mid new words status = record {
+      let ended : Serves g by mid new words status = record {
         serving = serving;
         named = named;
         limits = limits;
         done = done;
-        why = λ not_done. (fault not_done, not_served g (opens Any) (refuses Any) closes mid new serving.database.now (why not_done).0 (why not_done).1);
+        why = λ not_done. (fault not_done, not_served g by mid new serving.database.now (why not_done).0 (why not_done).1);
       } in
-      subst (λ (m : M). Serves g opens refuses closes m new words status) same ended
+      subst (λ (m : M). Serves g by m new words status) same ended
 
-  pub has_answered : (words : List Word) (from : Sources) (writer_mid writer0 writer : Option (List ℕ)) → writer_mid ≡ writer0 → (status : ℕ) → Asks g opens refuses closes mid new words from writer_mid writer status → Asks g opens refuses closes old new words from writer0 writer status
+  pub has_answered : (words : List Word) (from : Sources) (writer_mid writer0 writer : Option (List ℕ)) → writer_mid ≡ writer0 → (status : ℕ) → Asks g by mid new words from writer_mid writer status → Asks g by old new words from writer0 writer status
   has_answered words from writer_mid writer0 writer unwritten status ended =
-      subst (λ (m : M). Asks g opens refuses closes m new words from writer0 writer status) same (subst (λ (w : Option (List ℕ)). Asks g opens refuses closes mid new words from w writer status) unwritten ended)
+      subst (λ (m : M). Asks g by m new words from writer0 writer status) same (subst (λ (w : Option (List ℕ)). Asks g by mid new words from w writer status) unwritten ended)
 
 -- ---- an opening after it
 
@@ -122,13 +122,13 @@ module _ {S : Type 0} (g : Ghosts S) where
   pub asked_is_found : AskedIsFound g
   asked_is_found first last stored opened made clean begins found = found_again last opened found stored ((made.adopts clean begins).1.durable (state g found.was).now.trees found.left.1)
 
-module _ {M S : Type 0} (g : Ghosts S) (opens : M → M → List ℕ → Held S → Type 0) (closes : M → M → Held S → Type 0) where
-  pub run_begins : RunBegins g opens closes
+module _ {M S : Type 0} (g : Ghosts S) (by : Opener M (Held S)) where
+  pub run_begins : RunBegins g by
   run_begins old new path mode streams status run =
       let made = run.database.is_opened in
       subst (HasOpened g made.was run.first.tables) (sym (shows g run.first (settled run.opened) run.is_open.there)) made.opened
 
-  pub run_is_found : RunIsFound g opens closes
+  pub run_is_found : RunIsFound g by
   run_is_found old new path mode streams status run opened known found =
       let after = desk_with run.last opened in
       (after, run.run.run after (found_stored g run.last run.database.is_closed.0 known opened found), refl)

@@ -1,5 +1,5 @@
 -- What a service leaves that was begun over an opened database.
-use Rattle.std.proofs.Common.{◌≡◌, ◌≢◌, ℕ, All, List, [], Bool, true, false, IfSome, Option, Some, None, if◌then◌else◌, inl, inr, length, refl, sym, ap, ◌∙◌, subst}
+use Rattle.std.proofs.Common.{◌≡◌, ◌≢◌, ℕ, All, List, [], Bool, true, false, Option, Some, None, if◌then◌else◌, inl, inr, refl, sym, ap, ◌∙◌}
 use Rattle.std.proofs.lemmas.List.Elements.{All-nil}
 use Rattle.logbook.specs.Pages.{Book}
 use Rattle.sqlite.specs.Held.{Held}
@@ -12,6 +12,7 @@ use Rattle.prt_serve.specs.Kept.{Keeps, Work}
 use Rattle.prt_serve.specs.declared.listen.Accepting.{Accepting}
 use Rattle.prt_serve.specs.declared.listen.Accepting.TheVariants.{Ended, Failed, NoWorkers}
 use Rattle.prt_service.specs.Named.{IsReleased}
+use Rattle.prt_machine.specs.declared.database_opener.DatabaseOpener.{Ghosts as Opener}
 use Rattle.prt_version.specs.State.{State}
 use Rattle.prt_args.specs.Faults.{fault_status}
 use Rattle.prt_args.specs.declared.fault.Fault.{Fault}
@@ -72,7 +73,7 @@ serving_status : (fault : Fault) → IsFaultOfServing fault → fault_status fau
 serving_status fault (inl is) = ap fault_status is
 serving_status fault (inr is) = status_of (is_listeners is.0) is.0.refused fault is.1
 
-pub not_served_status : {M S : Type 0} (g : Ghosts S) (opens : M → M → List ℕ → Held S → Type 0) (refuses : M → M → List ℕ → Type 0) (closes : M → M → Held S → Type 0) (old new : M) (path : List ℕ) (fault : Fault)
-    → IsNotServed opens refuses closes g old new path fault → fault_status fault ≡ FAULT
-not_served_status g opens refuses closes old new path fault (inl none) = ap fault_status none.1
-not_served_status g opens refuses closes old new path fault (inr served) = serving_status fault served.1
+pub not_served_status : {M S : Type 0} (g : Ghosts S) (by : Opener M (Held S)) (old new : M) (path : List ℕ) (fault : Fault)
+    → IsNotServed g by old new path fault → fault_status fault ≡ FAULT
+not_served_status g by old new path fault (inl none) = ap fault_status none.1
+not_served_status g by old new path fault (inr served) = serving_status fault served.1

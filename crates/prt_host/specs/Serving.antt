@@ -7,7 +7,9 @@ use Rattle.prt_refusals.specs.declared.refusal.Refusal.{Refusal}
 use Rattle.prt_published.specs.Line.{Line}
 use Rattle.prt_publisher.specs.Openings.{OpensOne}
 use Rattle.prt_publisher.specs.Standing.{Standing}
-use Rattle.prt_questions.specs.Closing.{IsClosedAgain, LeavesNoneOpen}
+use Rattle.prt_machine.specs.declared.database_opener.DatabaseOpener.{Ghosts as Opener}
+use Rattle.prt_machine.specs.declared.database_opener.Wanted.TheVariants.{Any}
+use Rattle.prt_machine.specs.Closing.{IsClosedAgain, LeavesNoneOpen}
 use Rattle.prt_serve.specs.Kept.{Keeps, Work}
 use Rattle.prt_serve.specs.declared.listen.Accepting.{Accepting}
 use Rattle.prt_serve.specs.declared.listen.Accepting.TheVariants.{Failed, NoWorkers}
@@ -44,8 +46,8 @@ abbrev pub further_of : ServeEnd → Option Fault
 further_of end = if is_listeners end then looker_fault end.refused else None
 
 -- the database was refused for the reason that is the fault, and is not open
-abbrev pub IsNotOpened : {M S : Type 0} → (M → M → List ℕ → Held S → Type 0) → (M → M → List ℕ → Type 0) → (M → M → Held S → Type 0) → Ghosts S → M → M → List ℕ → Fault → Type 0
-IsNotOpened opens refuses closes g old new path fault = (reason : Refusal) × (fault ≡ Opening reason) × LeavesNoneOpen opens refuses closes g reason old new path
+abbrev pub IsNotOpened : {M S : Type 0} → Ghosts S → Opener M (Held S) → M → M → List ℕ → Fault → Type 0
+IsNotOpened g by old new path fault = (reason : Refusal) × (fault ≡ Opening reason) × LeavesNoneOpen g by Any reason old new path
 
 -- the fault is the listener's, or one with which serving can end
 abbrev pub IsFaultOfServing : Fault → Type 0
@@ -69,13 +71,13 @@ abbrev pub HasServedBy : {S : Type 0} → Ghosts S → ℕ → Held S → Held S
 HasServedBy g workers first last = (served : HasServed g first last) × (length served.shifts ≡ workers)
 
 -- the database was opened, and is closed again as its service left it
-abbrev pub IsServed : {M S : Type 0} → (M → M → List ℕ → Held S → Type 0) → (M → M → Held S → Type 0) → Ghosts S → M → M → List ℕ → Type 0
-IsServed opens closes g old new path = IsClosedAgain opens closes (HasServed g) old new path
+abbrev pub IsServed : {M S : Type 0} → Ghosts S → Opener M (Held S) → M → M → List ℕ → Type 0
+IsServed g by old new path = IsClosedAgain by Any (HasServed g) old new path
 
 -- so it is, and what each of so many workers replied `ok` is kept
-abbrev pub IsServedBy : {M S : Type 0} → (M → M → List ℕ → Held S → Type 0) → (M → M → Held S → Type 0) → Ghosts S → ℕ → M → M → List ℕ → Type 0
-IsServedBy opens closes g workers old new path = IsClosedAgain opens closes (HasServedBy g workers) old new path
+abbrev pub IsServedBy : {M S : Type 0} → Ghosts S → Opener M (Held S) → ℕ → M → M → List ℕ → Type 0
+IsServedBy g by workers old new path = IsClosedAgain by Any (HasServedBy g workers) old new path
 
 -- the server ended with a fault: of the opening, or of serving, and the database is closed
-abbrev pub IsNotServed : {M S : Type 0} → (M → M → List ℕ → Held S → Type 0) → (M → M → List ℕ → Type 0) → (M → M → Held S → Type 0) → Ghosts S → M → M → List ℕ → Fault → Type 0
-IsNotServed opens refuses closes g old new path fault = IsNotOpened opens refuses closes g old new path fault ⊎ (IsServed opens closes g old new path × IsFaultOfServing fault)
+abbrev pub IsNotServed : {M S : Type 0} → Ghosts S → Opener M (Held S) → M → M → List ℕ → Fault → Type 0
+IsNotServed g by old new path fault = IsNotOpened g by old new path fault ⊎ (IsServed g by old new path × IsFaultOfServing fault)

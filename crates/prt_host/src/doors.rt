@@ -1,8 +1,7 @@
 //! Where a server listens, all of it.
 
-use crate::door::ServerNet;
 use prt_args::ServeArgs;
-use prt_questions::Socket;
+use prt_machine::{ServerNet, Socket};
 use prt_serve::{Entrance, Entrances, Kind};
 use std::alloc::Global;
 use std::fmt;

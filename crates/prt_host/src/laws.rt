@@ -1,7 +1,7 @@
 //! Laws of runs, which no program calls.
 ghost use Rattle.prt_host.specs.Runs.{AskedIsFound, RunBegins, RunIsFound, ServiceIsFound};
 
-use prt_questions::{DatabaseOpener, Wanted};
+use prt_machine::DatabaseOpener;
 use sqlite::{Alter, Connection};
 
 /// A run begins with the state that its opening made (`begins`). An opening after a run makes a state that the session of
@@ -12,8 +12,8 @@ use sqlite::{Alter, Connection};
 /// then. Of files that are handed on `prt_desk::files_keep` says so. The disk returns what was written, and our tables
 /// are the first of the file.
 pub fn runs_go_on<S: Alter, M: DatabaseOpener<Connection<S>>>()
-    ensures begins { RunBegins S.Store (M.opens Wanted.Any) M.closes }
-    ensures run { RunIsFound S.Store (M.opens Wanted.Any) M.closes }
+    ensures begins { RunBegins S.Store M.DatabaseOpener }
+    ensures run { RunIsFound S.Store M.DatabaseOpener }
     ensures served { ServiceIsFound S.Store }
     ensures asked { AskedIsFound S.Store }
 {}

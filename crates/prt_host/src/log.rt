@@ -1,7 +1,7 @@
 //! The log of accepted commands.
 ghost use Rattle.std.specs.Prelude.{◌≡◌};
 
-use crate::door::is_local;
+use prt_machine::is_local;
 use std::alloc::{AllocError, Global};
 use std::net::SocketAddr;
 

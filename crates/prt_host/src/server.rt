@@ -6,25 +6,22 @@ ghost use Rattle.prt_args.specs.declared.fault.Fault.{Fault};
 ghost use Rattle.prt_publisher.specs.Standing.{IsQuiet};
 ghost use Rattle.prt_serve.specs.Kept.{Work};
 
-use crate::door::ServerNet;
-use crate::doors::{PlaceError, listen};
+use crate::context::ServerContext;
+use crate::doors::{Doors, PlaceError, listen};
 use crate::serving::{faults_of, serve_named};
-use crate::status::Measures;
 use crate::telling::tell_shared;
 use prt_args::{DONE, FAULT, Fault, ServeArgs, report};
 use prt_grace::Domain;
-use prt_program::{cause_message, log_message};
+use prt_machine::{Cause, DatabaseFiles, DatabaseOpener, Host, Wanted, open_publisher};
+use prt_program::{Refusal, cause_message, log_message};
 use prt_publisher::Publisher;
-use prt_questions::{DatabaseFiles, DatabaseOpener, Wanted, open_publisher};
-use prt_serve::{Entrances, ServeEnd};
-use sqlite::{Alter, Connection};
+use prt_serve::ServeEnd;
+use sqlite::Connection;
 use std::alloc::Global;
 use std::fmt::Display;
 use std::io::{self, Write};
 use std::marker::Brand;
-use std::rt::Clock;
-use std::sync::{Mutex, Wait};
-use std::thread::Threads;
+use std::sync::Mutex;
 
 /// Why nothing is served, or no more.
 #[derive(Drop)]
@@ -55,6 +52,14 @@ impl ServeError {
             further: None,
             message,
         }
+    }
+
+    /// Makes that of a database at a path that was refused, with the cause if it is known.
+    fn of_opening(alloc: Global, path: &str, refused: (Refusal, Option<Cause>)) -> ServeError
+        ensures { result.fault ≡ Fault.Opening refused.0 }
+    {
+        let (refusal, cause) = refused;
+        ServeError::new(alloc, Fault::Opening(refusal), &path, cause.as_ref())
     }
 
     /// Makes that of an end of serving, unless all that was asked for was served.
@@ -88,84 +93,55 @@ impl ServeError {
     }
 }
 
-/// Serves what comes at these entrances over a publisher. Returns the same as `serve_over`.
-fn serve_at<
-    S: Alter + Drop + Send,
-    F: Measures + Sync,
-    N: ServerNet + Threads + Wait + Clock + Drop + Send + Sync,
-    E: Write + Drop + Send,
->(
-    rt: &N,
-    alloc: Global,
-    files: &F,
-    mut publisher: Publisher<S>,
+/// Serves what comes at these doors over a publisher. Returns the same as `serve_over`.
+fn serve_at<H: Host>(
+    context: &ServerContext<'_, '_, '_, H>,
+    mut publisher: Publisher<H::Store>,
     domain: Domain,
-    entrances: &Entrances<N::Door>,
-    asked: &ServeArgs<'_>,
-    errors: &Mutex<E>,
-) -> (Option<ServeError>, Connection<S>)
-where
-    N::Stream: Send,
-    N::Door: Sync,
+    doors: &Doors<H::Net>,
+) -> (Option<ServeError>, Connection<H::Store>)
     requires { IsQuiet publisher.phase }
     ensures fault { IfSome result.0 (λ failure. IsFaultOfServing failure.fault) }
-    ensures left { (shifts : List Work) × IsLeft S.Store publisher.line.book publisher.line.base publisher.ours_first shifts result.1 × (result.0 ≡ None → length shifts ≡ asked.now.workers) }
+    ensures left { (shifts : List Work) × IsLeft H.Store.Store publisher.line.book publisher.line.base publisher.ours_first shifts result.1 × (result.0 ≡ None → length shifts ≡ context.now.asked.now.workers) }
 {
+    let (rt, alloc) = (context.rt, context.alloc);
     let seats = match publisher.seats(rt, alloc) {
         Ok(seats) => seats,
         Err(refusal) => {
             let opening = Fault::Opening(refusal);
-            let failure = ServeError::new(alloc, opening, &asked.database, None::<&io::Error>);
+            let failure = ServeError::new(
+                alloc,
+                opening,
+                &context.asked.database,
+                None::<&io::Error>,
+            );
             return (Some(failure), publisher.end(rt));
         }
     };
-    let (end, conn) = serve_named::<Brand, _, _, _, _, _, _>(
-        rt, alloc, files, publisher, seats, domain, entrances, asked, errors,
-    );
+    let (end, conn) = serve_named::<H, Brand>(context, publisher, seats, domain, doors);
     (ServeError::of_end(end), conn)
 }
 
 /// Listens, and serves what comes over a publisher. Returns why not all that was asked for was served, and the connection.
-fn serve_over<
-    S: Alter + Drop + Send,
-    F: Measures + Sync,
-    N: ServerNet + Threads + Wait + Clock + Drop + Send + Sync,
-    W: Write,
-    E: Write + Drop + Send,
->(
-    rt: &N,
-    alloc: Global,
-    files: &F,
-    publisher: Publisher<S>,
+fn serve_over<H: Host>(
+    context: &ServerContext<'_, '_, '_, H>,
+    publisher: Publisher<H::Store>,
     domain: Domain,
-    asked: &ServeArgs<'_>,
-    output: &mut W,
-    errors: &Mutex<E>,
-) -> (Option<ServeError>, Connection<S>)
-where
-    N::Stream: Send,
-    N::Door: Sync,
+    output: &mut H::Output,
+) -> (Option<ServeError>, Connection<H::Store>)
     requires { IsQuiet publisher.phase }
     ensures fault { IfSome result.0 (λ failure. IsFaultOfServing failure.fault) }
-    ensures left { (shifts : List Work) × IsLeft S.Store publisher.line.book publisher.line.base publisher.ours_first shifts result.1 × (result.0 ≡ None → length shifts ≡ asked.now.workers) }
+    ensures left { (shifts : List Work) × IsLeft H.Store.Store publisher.line.book publisher.line.base publisher.ours_first shifts result.1 × (result.0 ≡ None → length shifts ≡ context.now.asked.now.workers) }
 {
-    let doors = match listen(rt, alloc, asked, output) {
+    let (rt, alloc) = (context.rt, context.alloc);
+    let doors = match listen(rt, alloc, context.asked, output) {
         Ok(doors) => doors,
         Err(PlaceError { place, error }) => {
             let failure = ServeError::new(alloc, Fault::Listener, &place, Some(&error));
             return (Some(failure), publisher.end(rt));
         }
     };
-    let served = serve_at(
-        rt,
-        alloc,
-        files,
-        publisher,
-        domain,
-        &doors.entrances,
-        asked,
-        errors,
-    );
+    let served = serve_at(context, publisher, domain, &doors);
     doors.remove_files(rt);
     served
 }
@@ -175,39 +151,32 @@ where
 /// # Errors
 ///
 /// The fault that ended it, with its cause if one is known. The database is closed then too.
-fn serve_database<
-    S: Alter + Drop + Send,
-    M: DatabaseOpener<Connection<S>> + Drop,
-    F: Measures + Sync,
-    N: ServerNet + Threads + Wait + Clock + Copy + Drop + Send + Sync,
-    W: Write,
-    E: Write + Drop + Send,
->(
-    databases: &mut DatabaseFiles<'_, S, M, F, N>,
+fn serve_database<'x, H: Host>(
+    databases: &mut DatabaseFiles<'_, H>,
     alloc: Global,
-    asked: &ServeArgs<'_>,
-    output: &mut W,
-    errors: &Mutex<E>,
+    asked: &'x ServeArgs<'_>,
+    output: &mut H::Output,
+    errors: &'x Mutex<H::Errors>,
 ) -> Result<(), ServeError>
-where
-    N::Stream: Send,
-    N::Door: Sync,
-    ensures ok { OnOk result (IsServedBy (M.opens Wanted.Any) M.closes S.Store asked.now.workers databases.old.machine databases.new.machine asked.now.database.now) }
-    ensures err { IfErr result (λ failure. IsNotServed (M.opens Wanted.Any) (M.refuses Wanted.Any) M.closes S.Store databases.old.machine databases.new.machine asked.now.database.now failure.fault) }
+    ensures ok { OnOk result (IsServedBy H.Store.Store H.Opener.DatabaseOpener asked.now.workers databases.old.machine databases.new.machine asked.now.database.now) }
+    ensures err { IfErr result (λ failure. IsNotServed H.Store.Store H.Opener.DatabaseOpener databases.old.machine databases.new.machine asked.now.database.now failure.fault) }
 {
-    let (rt, path) = (databases.rt, asked.database);
-    let opened = open_publisher(&mut databases.machine, alloc, path, Wanted::Any);
+    let rt = databases.rt;
+    let opened = open_publisher(&mut databases.machine, alloc, asked.database, Wanted::Any);
     let (publisher, domain) = match opened {
         Ok(made) => made,
-        Err((refusal, cause)) => {
-            let fault = Fault::Opening(refusal);
-            return Err(ServeError::new(alloc, fault, &path, cause.as_ref()));
-        }
+        Err(refused) => return Err(ServeError::of_opening(alloc, asked.database, refused)),
     };
-    let files = databases.files;
-    let (failure, conn) = serve_over(&rt, alloc, files, publisher, domain, asked, output, errors);
+    let context: ServerContext<'_, '_, '_, H> = ServerContext {
+        rt: &rt,
+        alloc,
+        files: databases.files,
+        asked: &*asked,
+        errors: &*errors,
+    };
+    let (failure, conn) = serve_over(&context, publisher, domain, output);
     if let Err(reason) = databases.machine.close(conn) {
-        tell_shared(&rt, log_message(alloc, path, &reason), errors);
+        tell_shared(&rt, log_message(alloc, asked.database, &reason), errors);
     }
     match failure {
         Some(failure) => Err(failure),
@@ -222,26 +191,16 @@ where
 ///
 /// With status 0 the list that was published at the end has each command that a worker replied `ok N` to, at the number N,
 /// and the tables that are left stand for it.
-pub(crate) fn serve<
-    S: Alter + Drop + Send,
-    M: DatabaseOpener<Connection<S>> + Drop,
-    F: Measures + Sync,
-    N: ServerNet + Threads + Wait + Clock + Copy + Drop + Send + Sync,
-    W: Write,
-    E: Write + Drop + Send,
->(
-    databases: &mut DatabaseFiles<'_, S, M, F, N>,
+pub(crate) fn serve<H: Host>(
+    databases: &mut DatabaseFiles<'_, H>,
     alloc: Global,
     asked: &ServeArgs<'_>,
-    output: &mut W,
-    errors: E,
+    output: &mut H::Output,
+    errors: H::Errors,
 ) -> u8
-where
-    N::Stream: Send,
-    N::Door: Sync,
-    ensures done { result ≡ DONE → IsServedBy (M.opens Wanted.Any) M.closes S.Store asked.now.workers databases.old.machine databases.new.machine asked.now.database.now }
+    ensures done { result ≡ DONE → IsServedBy H.Store.Store H.Opener.DatabaseOpener asked.now.workers databases.old.machine databases.new.machine asked.now.database.now }
     ensures fault { result ≢ DONE → result ≡ FAULT }
-    ensures why { result ≢ DONE → (fault : Fault) × IsNotServed (M.opens Wanted.Any) (M.refuses Wanted.Any) M.closes S.Store databases.old.machine databases.new.machine asked.now.database.now fault }
+    ensures why { result ≢ DONE → (fault : Fault) × IsNotServed H.Store.Store H.Opener.DatabaseOpener databases.old.machine databases.new.machine asked.now.database.now fault }
 {
     let errors = Mutex::new(errors);
     let served = serve_database(databases, alloc, asked, output, &errors);

@@ -5,24 +5,21 @@ ghost use Rattle.prt_publisher.specs.Standing.{IsQuiet};
 ghost use Rattle.prt_serve.specs.Kept.{Keeps, Work};
 ghost use Rattle.prt_service.specs.Named.{IsNamed};
 
+use crate::context::ServerContext;
 use crate::counts::Counts;
-use crate::status::Measures;
+use crate::doors::Doors;
 use crate::telling::ReportingGate;
 use prt_args::{Fault, ServeArgs};
 use prt_grace::Domain;
+use prt_machine::Host;
 use prt_program::Refusal;
 use prt_published::Known;
 use prt_publisher::{Publisher, Seats};
-use prt_serve::{Accepting, Entrances, Limits, ServeEnd, Shift, Worked, serve_entrances};
+use prt_serve::{Accepting, Limits, ServeEnd, ServiceContext, Shift, Worked, serve_entrances};
 use prt_service::{Released, Service, ServiceBrand};
-use sqlite::{Alter, Connection};
-use std::alloc::Global;
-use std::io::{Read, Write};
-use std::net::{OpenListener, OpenStream};
-use std::rt::Clock;
+use sqlite::Connection;
+use std::sync::Mutex;
 use std::sync::atomic::AtomicBool;
-use std::sync::{Mutex, Wait};
-use std::thread::Threads;
 use std::time::Duration;
 
 /// Computes how long a client may send nothing or take nothing; 0 seconds are without end.
@@ -45,42 +42,28 @@ fn limits_of(asked: &ServeArgs<'_>) -> Limits
     }
 }
 
-/// Serves what comes at the entrances by a service, and reports on `errors` why a commit failed, and why nothing is accepted.
-fn serve_reporting<
-    'a,
-    J: ServiceBrand + Send,
-    S: Alter + Drop + Send,
-    H: Threads + Wait + Clock + Sync,
-    F: Measures + Sync,
-    T: Read + Write + OpenStream + Drop + Send,
-    L: OpenListener<Stream = T> + Drop + Sync,
-    E: Write + Drop + Send,
->(
-    rt: &'a H,
-    alloc: Global,
-    files: &'a F,
-    service: &'a Service<S, J>,
-    path: &'a str,
-    errors: &'a Mutex<E>,
-    is_logged: bool,
-    entrances: &Entrances<L>,
-    limits: Limits,
+/// Serves what comes at the doors by a service, and reports why a commit failed, and why nothing is accepted.
+fn serve_reporting<H: Host, J: ServiceBrand + Send>(
+    context: &ServerContext<'_, '_, '_, H>,
+    service: &Service<H::Store, J>,
+    doors: &Doors<H::Net>,
 ) -> Worked<J>
-    ensures { result.end.accepting ≢ Accepting.Failed → result.end.refused ≡ None → vec_len result.shifts ≡ limits.workers }
+    ensures { result.end.accepting ≢ Accepting.Failed → result.end.refused ≡ None → vec_len result.shifts ≡ context.now.asked.now.workers }
 {
     let gate = ReportingGate {
-        rt,
-        alloc,
+        rt: context.rt,
+        alloc: context.alloc,
         service,
-        files,
-        path,
-        errors,
-        is_logged,
+        files: context.files,
+        path: context.asked.database,
+        errors: context.errors,
+        is_logged: context.asked.is_logged,
         counts: Counts::new(),
         is_failure_told: AtomicBool::new(false),
         accept_told: Mutex::new(None),
     };
-    serve_entrances(rt, alloc, service, &gate, entrances, limits)
+    let sessions = ServiceContext::new(context.rt, context.alloc, service, &gate);
+    serve_entrances(&sessions, &doors.entrances, limits_of(context.asked))
 }
 
 /// Checks whether the published list keeps all that the workers replied `ok` to.
@@ -106,46 +89,24 @@ fn not_kept(end: ServeEnd) -> ServeEnd
     }
 }
 
-/// Serves what comes at the entrances, by a service that is named here. Returns how that ended, and the connection.
+/// Serves what comes at the doors, by a service that is named here. Returns how that ended, and the connection.
 ///
 /// At the end the list that each worker knew is compared with the published one: if it weren't a prefix, that is a fault.
-pub(crate) fn serve_named<
-    J: ServiceBrand + Send,
-    S: Alter + Drop + Send,
-    H: Threads + Wait + Clock + Sync,
-    F: Measures + Sync,
-    T: Read + Write + OpenStream + Drop + Send,
-    L: OpenListener<Stream = T> + Drop + Sync,
-    E: Write + Drop + Send,
->(
-    rt: &H,
-    alloc: Global,
-    files: &F,
-    publisher: Publisher<S>,
+pub(crate) fn serve_named<H: Host, J: ServiceBrand + Send>(
+    context: &ServerContext<'_, '_, '_, H>,
+    publisher: Publisher<H::Store>,
     seats: Seats,
     domain: Domain,
-    entrances: &Entrances<L>,
-    asked: &ServeArgs<'_>,
-    errors: &Mutex<E>,
-) -> (ServeEnd, Connection<S>)
+    doors: &Doors<H::Net>,
+) -> (ServeEnd, Connection<H::Store>)
     requires quiet { IsQuiet publisher.phase }
     requires of { IsNamed J.book J.base J.ours_first publisher }
     requires seats { (seats.book ≡ J.book) × (seats.base ≡ J.base) }
-    ensures { (shifts : List Work) × IsLeft S.Store J.book J.base J.ours_first shifts result.1 × (fault_of result.0 ≡ None → length shifts ≡ asked.now.workers) }
+    ensures { (shifts : List Work) × IsLeft H.Store.Store J.book J.base J.ours_first shifts result.1 × (fault_of result.0 ≡ None → length shifts ≡ context.now.asked.now.workers) }
 {
-    let service: Service<S, J> = Service::new(publisher, seats, domain);
-    let Worked { end, shifts } = serve_reporting(
-        rt,
-        alloc,
-        files,
-        &service,
-        asked.database,
-        errors,
-        asked.is_logged,
-        entrances,
-        limits_of(asked),
-    );
-    let Released { conn, published } = service.end(rt);
+    let service: Service<H::Store, J> = Service::new(publisher, seats, domain);
+    let Worked { end, shifts } = serve_reporting(context, &service, doors);
+    let Released { conn, published } = service.end(context.rt);
     if are_kept(&published, shifts.as_slice()) {
         (end, conn)
     } else {

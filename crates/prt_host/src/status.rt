@@ -19,13 +19,12 @@
 use crate::counts::Counted;
 use prt_args::VERSION;
 use prt_grace::Retention;
+use prt_machine::Measures;
 use prt_refusals::{Refusal, StoreCall};
 use prt_service::{Figures, contents_of};
 use sqlite::Error;
 use std::alloc::{AllocError, Global};
 use std::fmt;
-use std::fs::Files;
-use std::io::ErrorKind;
 use std::time::Duration;
 
 /// What the status of a server is made of.
@@ -44,22 +43,6 @@ pub(crate) struct Status {
 pub(crate) struct Sizes {
     pub(crate) file: Option<u64>,
     pub(crate) log: Option<u64>,
-}
-
-/// A file system that is asked how large a file is. It names no types, so threads can share what holds one.
-pub trait Measures {
-    /// Asks the system how many bytes a file has: 0 if there is none.
-    fn size_at(&self, path: &str) -> Option<u64>;
-}
-
-impl Measures for HostRuntime {
-    fn size_at(&self, path: &str) -> Option<u64> {
-        match self.metadata(path) {
-            Ok(found) => Some(found.len()),
-            Err(error) if error.kind() == ErrorKind::NotFound => Some(0),
-            Err(_) => None,
-        }
-    }
 }
 
 /// Asks the system for the sizes of the files of the database at a path.

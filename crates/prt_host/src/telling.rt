@@ -1,10 +1,10 @@
 //! What is reported on standard error beside a session.
 use crate::counts::Counts;
 use crate::log::log_line;
-use crate::status::{Measures, Status, sizes_of, status_text};
+use crate::status::{Status, sizes_of, status_text};
 use prt_command::Command;
-use prt_program::{ErrorKeeping, Refusal, cause_message};
-use prt_questions::tell;
+use prt_machine::{KeepsError, Measures, tell};
+use prt_program::{Refusal, cause_message};
 use prt_serve::{Gate, Queued};
 use prt_service::{Service, ServiceBrand};
 use prt_session::Reply;
@@ -30,10 +30,10 @@ pub(crate) fn tell_shared<H: Wait, E: Write + Drop>(
 }
 
 /// Reports why a stream of this name failed, if it did.
-pub(crate) fn tell_failure<S, E: Write>(
+pub(crate) fn tell_failure<S: KeepsError, E: Write>(
     alloc: Global,
     name: &str,
-    stream: &ErrorKeeping<S>,
+    stream: &S,
     errors: &mut E,
 ) {
     if let Some(error) = stream.error() {
@@ -42,10 +42,10 @@ pub(crate) fn tell_failure<S, E: Write>(
 }
 
 /// Reports why the standard input and the standard output failed, if they did.
-pub(crate) fn tell_failures<R, W, E: Write>(
+pub(crate) fn tell_failures<R: KeepsError, W: KeepsError, E: Write>(
     alloc: Global,
-    input: &ErrorKeeping<R>,
-    output: &ErrorKeeping<W>,
+    input: &R,
+    output: &W,
     errors: &mut E,
 ) {
     tell_failure(alloc, "standard input", input, errors);
@@ -57,7 +57,8 @@ const TELLING_PAUSE: u64 = 60;
 
 /// Lets every line pass, and reports why a commit failed: once, since no command is taken after it. It reports why no
 /// connection could be accepted, too, at most once a minute. It counts what becomes of commands and of sessions, logs
-/// accepted commands if that is asked for, and makes the status.
+/// accepted commands if that is asked for, and makes the status. Its types are no `Host`'s: a gate is used by threads, for
+/// which the prover takes no bound of an associated type.
 #[derive(Drop)]
 pub(crate) struct ReportingGate<
     'a,

@@ -21,14 +21,14 @@ use Rattle.prt_questions.specs.Asking.{IsAnswered, IsAnsweredAtMost, IsAskedOf, 
 use Rattle.prt_questions.specs.Sources.{Sources}
 use Rattle.prt_questions.specs.Told.{IsSaidOf, TellsOrReplies}
 use Rattle.prt_questions.specs.declared.inquiry.Inquiry.{Inquiry}
-use Rattle.prt_questions.specs.declared.database_opener.Wanted.{Wanted}
+use Rattle.prt_machine.specs.declared.database_opener.DatabaseOpener.{Ghosts as Opener}
 use Rattle.prt_questions.specs.declared.remote.Told.{Told}
 use Rattle.prt_questions.specs.declared.remote.Told.TheVariants.{Reply, Tables}
 use Rattle.prt_import.specs.TableNames.{names_of}
 
-module _ {M S : Type 0} (g : Ghosts S) (opens : Wanted → M → M → List ℕ → Held S → Type 0) (refuses : Wanted → M → M → List ℕ → Type 0) (closes : M → M → Held S → Type 0) (from : Sources) (old new : M) where
+module _ {M S : Type 0} (g : Ghosts S) (by : Opener M (Held S)) (from : Sources) (old new : M) where
   -- what holds of the state that was asked, and what follows from it
-  pub asked_more : (source : Source) (P Q : State → Type 0) → ((state : State) → P state → Q state) → IsAskedOf g opens refuses closes from old new source P → IsAskedOf g opens refuses closes from old new source Q
+  pub asked_more : (source : Source) (P Q : State → Type 0) → ((state : State) → P state → Q state) → IsAskedOf g by from old new source P → IsAskedOf g by from old new source Q
   asked_more (Database path) P Q more asked = record {
     between = asked.between;
     first = asked.first;
@@ -45,7 +45,7 @@ module _ {M S : Type 0} (g : Ghosts S) (opens : Wanted → M → M → List ℕ 
   nothing_said text before lines appended begun empty = sym (ap (λ xs. xs ++ text) begun) ∙ sym appended ∙ empty
 
   pub says_nothing : (source : Source) (says : State → List ℕ) (IsWhole : State → Type 0) (before lines : List ℕ) → before ≡ [] → lines ≡ []
-      → IsAnswered g opens refuses closes from old new (Some before) (Some lines) source says IsWhole → IsAskedOf g opens refuses closes from old new source (λ state. (says state ≡ []) × IsWhole state)
+      → IsAnswered g by from old new (Some before) (Some lines) source says IsWhole → IsAskedOf g by from old new source (λ state. (says state ≡ []) × IsWhole state)
   says_nothing (Script file) says IsWhole before lines begun empty answered =
       (answered.0, answered.1, answered.2, answered.3, answered.4, (nothing_said (says answered.1.version) before lines answered.6 begun empty, answered.7))
   says_nothing (Database path) says IsWhole before lines begun empty answered =
@@ -55,8 +55,8 @@ module _ {M S : Type 0} (g : Ghosts S) (opens : Wanted → M → M → List ℕ 
       (answered.0, answered.1, answered.2, (nothing_said (says answered.1) before lines answered.3.0 begun empty, answered.3.1))
 
   -- whether it was asked, whatever was written
-  pub asked_or_not : (source : Source) (says : State → List ℕ) (writer0 writer : Option (List ℕ)) → IsAnsweredAtMost g opens refuses closes from old new writer0 writer source says
-      → IsNotAsked g opens refuses closes old new source ⊎ IsAskedOf g opens refuses closes from old new source (λ state. Unit {0})
+  pub asked_or_not : (source : Source) (says : State → List ℕ) (writer0 writer : Option (List ℕ)) → IsAnsweredAtMost g by from old new writer0 writer source says
+      → IsNotAsked g by old new source ⊎ IsAskedOf g by from old new source (λ state. Unit {0})
   asked_or_not source says writer0 writer (inl not_asked) = inl not_asked.0
   asked_or_not source says writer0 writer (inr asked) = inr (asked_more source (λ state. IsCutOff (says state) writer0 writer) (λ state. Unit {0}) (λ state cut. tt) asked)
 
@@ -104,16 +104,16 @@ pub whole_answer : (question : Question) (state : State) (answered : Result Answ
 whole_answer question state answered are is = whole_by question state is.0.notes (subst (λ result. IfOk result (λ made. AreNotes question state made.notes)) is.1 are) is.2
 
 -- what a server said and was written, of its tables or by a session
-module _ {M S : Type 0} (g : Ghosts S) (opens : Wanted → M → M → List ℕ → Held S → Type 0) (refuses : Wanted → M → M → List ℕ → Type 0) (closes : M → M → Held S → Type 0) (from : Sources) (machine : M) (writer0 writer : Option (List ℕ)) where
+module _ {M S : Type 0} (g : Ghosts S) (by : Opener M (Held S)) (from : Sources) (machine : M) (writer0 writer : Option (List ℕ)) where
   pub told_whole : (place : ServerPlace) (line : List ℕ) (inquiry : Inquiry) (text : List ℕ) → IsQuery inquiry.question → IsTold (from.tells place) (from.replies place line) inquiry text → Appends writer0 writer text
-      → IsAnswered g opens refuses closes from machine machine writer0 writer (Server place) (said inquiry) (IsWholeAnswer inquiry.question)
-      ⊎ IsReplied g opens refuses closes from machine machine writer0 writer (Server place) line (called inquiry.labels inquiry.form (names_of inquiry.names.now))
+      → IsAnswered g by from machine machine writer0 writer (Server place) (said inquiry) (IsWholeAnswer inquiry.question)
+      ⊎ IsReplied g by from machine machine writer0 writer (Server place) line (called inquiry.labels inquiry.form (names_of inquiry.names.now))
   told_whole place line inquiry text query (inl (told, tells, is)) appended = inl (refl, told, tells, (rw (sym is) appended, query_is_whole inquiry.question told query))
   told_whole place line inquiry text query (inr (reply, replies, is)) appended = inr (refl, reply, replies, rw (sym is) appended)
 
   pub told_at_most : (place : ServerPlace) (line : List ℕ) (inquiry : Inquiry) → (writer ≡ writer0) ⊎ ((text : List ℕ) × IsTold (from.tells place) (from.replies place line) inquiry text × IsCutOff text writer0 writer)
-      → IsAnsweredAtMost g opens refuses closes from machine machine writer0 writer (Server place) (said inquiry)
-      ⊎ IsRepliedAtMost g opens refuses closes from machine machine writer0 writer (Server place) line (called inquiry.labels inquiry.form (names_of inquiry.names.now))
+      → IsAnsweredAtMost g by from machine machine writer0 writer (Server place) (said inquiry)
+      ⊎ IsRepliedAtMost g by from machine machine writer0 writer (Server place) line (called inquiry.labels inquiry.form (names_of inquiry.names.now))
   told_at_most place line inquiry (inl same) = inl (inl (refl, same))
   told_at_most place line inquiry (inr (text, inl (told, tells, is), cut)) = inl (inr (refl, told, tells, rw (sym is) cut))
   told_at_most place line inquiry (inr (text, inr (reply, replies, is), cut)) = inr (refl, reply, replies, rw (sym is) cut)

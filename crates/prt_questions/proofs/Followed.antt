@@ -14,7 +14,7 @@ use Rattle.prt_version.specs.State.{State}
 use Rattle.prt_args.specs.declared.server_place.ServerPlace.{ServerPlace}
 use Rattle.prt_questions.specs.Asking.{follow_text}
 use Rattle.prt_questions.specs.Sources.{AreFed, AreTold}
-use Rattle.prt_questions.specs.declared.local.Socket.{Socket}
+use Rattle.prt_machine.specs.declared.local.Socket.{Socket}
 
 -- the first lines alone
 pub first_lines : (fence : Fence) (found told : State) (a b : Option (List ℕ)) (text : List ℕ) → text ≡ changes_text fence found told → Written false a b text → Written false a b (follow_text fence found told [])

@@ -1,4 +1,3 @@
-pub mod Alone
 mod Asked
 mod Comments
 mod Followed

@@ -8,7 +8,7 @@ use Rattle.prt_feed.specs.Reading.{IsOpening}
 use Rattle.prt_feed.specs.declared.opening.Opening.{Opening}
 use Rattle.prt_args.specs.declared.server_place.ServerPlace.{ServerPlace}
 use Rattle.prt_questions.specs.Told.{IsReached, IsToldBy, IsToldIn}
-use Rattle.prt_questions.specs.declared.local.Socket.{Socket}
+use Rattle.prt_machine.specs.declared.local.Socket.{Socket}
 use Rattle.prt_questions.specs.declared.remote.Told.{Told}
 use Rattle.prt_questions.specs.declared.remote.Told.TheVariants.{Reply, Tables}
 

@@ -1,5 +1,5 @@
 -- What comes of questions about all packets: what a script changes, which claims don't hold, and what no packet needs.
-use Rattle.std.specs.Prelude.{◌≡◌, ◌⊎◌, ℕ, List, [], ◌++◌, Bool, false, if◌then◌else◌, flat_map, Option}
+use Rattle.std.specs.Prelude.{◌≡◌, ◌≢◌, ◌⊎◌, ℕ, List, [], ◌++◌, Bool, false, if◌then◌else◌, flat_map, Option}
 use Rattle.std.specs.List.{list_all}
 use Rattle.std.specs.Io.KnownBytes.{Appends}
 use Rattle.sqlite.specs.Held.{Held}
@@ -35,7 +35,7 @@ use Rattle.prt_questions.specs.Asking.{IsAskedOf, IsCutOff, IsNotAsked}
 use Rattle.prt_questions.specs.LeftOut.{AreKernels, is_kernels}
 use Rattle.prt_questions.specs.Sources.{Gives, Sources, path_of}
 use Rattle.prt_questions.specs.declared.asking.TheConstants.{REFUSED}
-use Rattle.prt_questions.specs.declared.database_opener.Wanted.{Wanted}
+use Rattle.prt_machine.specs.declared.database_opener.DatabaseOpener.{Ghosts as Opener}
 
 -- ---- a change
 
@@ -106,6 +106,10 @@ module _ (reads : List ℕ → Type 0) (writer0 writer : Option (List ℕ)) wher
       × Appends writer0 writer (breaches_text asserting.is_explained state checked.breaches.items)
       × (status ≡ DONE → checked.breaches.items ≡ [])
 
+  -- a line of the text is no claim, and nothing was written
+  abbrev pub IsUnreadable : State → Type 0
+  IsUnreadable state = (text : List ℕ) × reads text × (checked : Checked) × IsChecked state text checked × (checked.bad.items ≢ []) × (writer ≡ writer0)
+
   abbrev pub IsAssertedAtMost : AssertArgs → State → Type 0
   IsAssertedAtMost asserting state =
       (writer ≡ writer0)
@@ -125,23 +129,23 @@ module _ (writer0 writer : Option (List ℕ)) where
 
 -- ---- of the tables of a source
 
-module _ {M S : Type 0} (g : Ghosts S) (opens : Wanted → M → M → List ℕ → Held S → Type 0) (refuses : Wanted → M → M → List ℕ → Type 0) (closes : M → M → Held S → Type 0) (from : Sources) (old new : M) where
+module _ {M S : Type 0} (g : Ghosts S) (by : Opener M (Held S)) (from : Sources) (old new : M) where
   -- the tables of a source were read; if this status is 0, no line of a script was left out, except what the kernel makes itself
   abbrev pub HaveTables : Source → (left : ℕ) → State → Type 0
   HaveTables (Script file) left tables =
       (new ≡ old) × (made : Accepted) × (text : List ℕ) × Gives from (path_of file) text × IsExecuted made text × (left ≡ DONE → AreKernels made.left.items) × (tables ≡ made.version)
-  HaveTables source left tables = IsAskedOf g opens refuses closes from old new source (λ state. tables ≡ state)
+  HaveTables source left tables = IsAskedOf g by from old new source (λ state. tables ≡ state)
 
   -- they were not, or memory was refused after that
   abbrev pub IsNotRead : Source → Type 0
-  IsNotRead source = IsNotAsked g opens refuses closes old new source ⊎ IsAskedOf g opens refuses closes from old new source (λ state. Unit {0})
+  IsNotRead source = IsNotAsked g by old new source ⊎ IsAskedOf g by from old new source (λ state. Unit {0})
 
   -- this holds of them and of what was written; with status 0 no line of a script was left out
   abbrev pub IsFoundOf : Source → (status : ℕ) → (State → Type 0) → Type 0
   IsFoundOf (Script file) status Holds =
       (new ≡ old) × (made : Accepted) × (text : List ℕ) × Gives from (path_of file) text × IsExecuted made text × (status ≡ DONE → AreKernels made.left.items) × Holds made.version
-  IsFoundOf source status Holds = IsAskedOf g opens refuses closes from old new source Holds
+  IsFoundOf source status Holds = IsAskedOf g by from old new source Holds
 
   -- in any case: they were not read, and nothing was written; or this holds
   abbrev pub IsFoundAtMost : (writer0 writer : Option (List ℕ)) → Source → (State → Type 0) → Type 0
-  IsFoundAtMost writer0 writer source Holds = (IsNotRead source × (writer ≡ writer0)) ⊎ IsAskedOf g opens refuses closes from old new source Holds
+  IsFoundAtMost writer0 writer source Holds = (IsNotRead source × (writer ≡ writer0)) ⊎ IsAskedOf g by from old new source Holds

@@ -24,12 +24,13 @@ use Rattle.prt_args.specs.declared.service.ApplyArgs.{ApplyArgs}
 use Rattle.prt_args.specs.declared.service.Target.{Target}
 use Rattle.prt_args.specs.declared.service.Target.TheVariants.{Database, Server}
 use Rattle.prt_questions.specs.Asking.{IsCutOff, IsNotOpened, comments_of}
-use Rattle.prt_questions.specs.Closing.{IsClosedAgain}
+use Rattle.prt_machine.specs.declared.database_opener.DatabaseOpener.{Ghosts as Opener}
+use Rattle.prt_machine.specs.Closing.{IsClosedAgain}
 use Rattle.prt_questions.specs.LeftOut.{AreKernels}
 use Rattle.prt_questions.specs.Sources.{Gives, Sources, path_of}
 use Rattle.prt_questions.specs.Submitting.{AreMadeInParts}
-use Rattle.prt_questions.specs.declared.database_opener.Wanted.{Wanted}
-use Rattle.prt_questions.specs.declared.database_opener.Wanted.TheVariants.{Any, Ours}
+use Rattle.prt_machine.specs.declared.database_opener.Wanted.{Wanted}
+use Rattle.prt_machine.specs.declared.database_opener.Wanted.TheVariants.{Any, Ours}
 
 -- ---- what is printed
 
@@ -88,8 +89,8 @@ wanted_by true = Ours
 wanted_by false = Any
 
 -- the tables at a path were made these, and what was printed says how
-abbrev pub IsMadeAt : {M S : Type 0} → Ghosts S → (opens : Wanted → M → M → List ℕ → Held S → Type 0) → (closes : M → M → Held S → Type 0) → (old new : M) → (writer0 writer : Option (List ℕ)) → (path : List ℕ) → (shows is_dry_run : Bool) → (wanted : State) → Type 0
-IsMadeAt g opens closes old new writer0 writer path shows is_dry_run wanted = IsClosedAgain (opens (wanted_by is_dry_run)) closes (Makes g shows is_dry_run wanted writer0 writer) old new path
+abbrev pub IsMadeAt : {M S : Type 0} → Ghosts S → Opener M (Held S) → (old new : M) → (writer0 writer : Option (List ℕ)) → (path : List ℕ) → (shows is_dry_run : Bool) → (wanted : State) → Type 0
+IsMadeAt g by old new writer0 writer path shows is_dry_run wanted = IsClosedAgain by (wanted_by is_dry_run) (Makes g shows is_dry_run wanted writer0 writer) old new path
 
 -- a server accepted the changes that make the tables that it told those that are wanted, where it takes them; or they were only planned
 abbrev pub AreMadeBy : (submits : ServerPlace → List ℕ → List ℕ → Type 0) → Option ServerPlace → (is_dry_run : Bool) → (told wanted : State) → Type 0
@@ -100,22 +101,22 @@ AreMadeBy submits named false told wanted = (place : ServerPlace) × (named ≡ 
 abbrev pub IsScript : (reads : List ℕ → Type 0) → Accepted → Type 0
 IsScript reads made = (text : List ℕ) × reads text × IsExecuted made text × AreKernels made.left.items
 
-module _ {M S : Type 0} (g : Ghosts S) (opens : Wanted → M → M → List ℕ → Held S → Type 0) (refuses : Wanted → M → M → List ℕ → Type 0) (closes : M → M → Held S → Type 0) (old new : M) (writer0 writer : Option (List ℕ)) where
+module _ {M S : Type 0} (g : Ghosts S) (by : Opener M (Held S)) (old new : M) (writer0 writer : Option (List ℕ)) where
   -- in any case: the database could not be opened and nothing was printed, or a part at most
   abbrev pub IsMadeAtMost : (path : List ℕ) (shows is_dry_run : Bool) → (wanted : State) → Type 0
   IsMadeAtMost path shows is_dry_run wanted =
-      (IsNotOpened g opens refuses closes old new (wanted_by is_dry_run) path × (writer ≡ writer0))
-      ⊎ IsClosedAgain (opens (wanted_by is_dry_run)) closes (MakesAtMost g shows is_dry_run wanted writer0 writer) old new path
+      (IsNotOpened g by old new (wanted_by is_dry_run) path × (writer ≡ writer0))
+      ⊎ IsClosedAgain by (wanted_by is_dry_run) (MakesAtMost g shows is_dry_run wanted writer0 writer) old new path
 
-module _ {M S : Type 0} (g : Ghosts S) (opens : Wanted → M → M → List ℕ → Held S → Type 0) (refuses : Wanted → M → M → List ℕ → Type 0) (closes : M → M → Held S → Type 0) (from : Sources) (old new : M) (writer0 writer : Option (List ℕ)) where
+module _ {M S : Type 0} (g : Ghosts S) (by : Opener M (Held S)) (from : Sources) (old new : M) (writer0 writer : Option (List ℕ)) where
   -- the tables of a target were made these: a server told what they were before, and accepted the changes
   abbrev pub IsAppliedTo : Target → (shows is_dry_run : Bool) → (wanted : State) → Type 0
-  IsAppliedTo (Database path) shows is_dry_run wanted = IsMadeAt g opens closes old new writer0 writer path.now shows is_dry_run wanted
+  IsAppliedTo (Database path) shows is_dry_run wanted = IsMadeAt g by old new writer0 writer path.now shows is_dry_run wanted
   IsAppliedTo (Server ends) shows is_dry_run wanted = (new ≡ old) × ((told : State) × from.tells ends.feed told × AreMadeBy from.submits ends.atomic is_dry_run told wanted × IsPrinted shows told wanted writer0 writer)
 
   -- in any case
   abbrev pub IsAppliedAtMost : Target → (shows is_dry_run : Bool) → (wanted : State) → Type 0
-  IsAppliedAtMost (Database path) shows is_dry_run wanted = IsMadeAtMost g opens refuses closes old new writer0 writer path.now shows is_dry_run wanted
+  IsAppliedAtMost (Database path) shows is_dry_run wanted = IsMadeAtMost g by old new writer0 writer path.now shows is_dry_run wanted
   IsAppliedAtMost (Server ends) shows is_dry_run wanted = (new ≡ old) × ((writer ≡ writer0) ⊎ ((told : State) × from.tells ends.feed told × IsPrintedAtMost shows told wanted writer0 writer))
 
   -- the tables were made what the script makes

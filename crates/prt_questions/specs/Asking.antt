@@ -50,12 +50,13 @@ use Rattle.prt_args.specs.declared.asking.Source.TheVariants.{Database, Server, 
 use Rattle.prt_args.specs.declared.reach.Reach.{Reach}
 use Rattle.prt_args.specs.declared.server_place.ServerPlace.{ServerPlace}
 use Rattle.prt_questions.specs.Fencing.{IsFenceOf}
-use Rattle.prt_questions.specs.Closing.{IsClosedAgain, LeavesNoneOpen}
+use Rattle.prt_machine.specs.declared.database_opener.DatabaseOpener.{Ghosts as Opener}
+use Rattle.prt_machine.specs.Closing.{IsClosedAgain, LeavesNoneOpen}
 use Rattle.prt_questions.specs.LeftOut.{AreKernels, is_kernels}
 use Rattle.prt_questions.specs.Sources.{Gives, Sources, after, path_of, rest_after}
 use Rattle.prt_questions.specs.declared.inquiry.Inquiry.{Inquiry}
-use Rattle.prt_questions.specs.declared.database_opener.Wanted.{Wanted}
-use Rattle.prt_questions.specs.declared.database_opener.Wanted.TheVariants.{Ours}
+use Rattle.prt_machine.specs.declared.database_opener.Wanted.{Wanted}
+use Rattle.prt_machine.specs.declared.database_opener.Wanted.TheVariants.{Ours}
 
 -- ---- what is said
 
@@ -198,39 +199,39 @@ HasFollowedAtMost from writer0 writer file place reach =
 
 -- ---- what was done
 
-module _ {M S : Type 0} (g : Ghosts S) (opens : Wanted → M → M → List ℕ → Held S → Type 0) (refuses : Wanted → M → M → List ℕ → Type 0) (closes : M → M → Held S → Type 0) (old new : M) where
+module _ {M S : Type 0} (g : Ghosts S) (by : Opener M (Held S)) (old new : M) where
   -- The database at a path, which was there, was opened and closed, and this holds of its state. No other was touched, and none made.
   abbrev pub IsAskedAt : List ℕ → (State → Type 0) → Type 0
-  IsAskedAt path Holds = IsClosedAgain (opens Ours) closes (λ first last. (stored : State) × HasOpened g first last stored × Holds stored) old new path
+  IsAskedAt path Holds = IsClosedAgain by Ours (λ first last. (stored : State) × HasOpened g first last stored × Holds stored) old new path
 
   -- no database was touched, or the one at a path could not be opened as it is wanted
   abbrev pub IsNotOpened : Wanted → List ℕ → Type 0
-  IsNotOpened wanted path = (new ≡ old) ⊎ ((reason : Refusal) × LeavesNoneOpen (opens wanted) (refuses wanted) closes g reason old new path)
+  IsNotOpened wanted path = (new ≡ old) ⊎ ((reason : Refusal) × LeavesNoneOpen g by wanted reason old new path)
 
   abbrev pub IsNotAsked : Source → Type 0
   IsNotAsked (Database path) = IsNotOpened Ours path.now
   IsNotAsked source = new ≡ old
 
-module _ {M S : Type 0} (g : Ghosts S) (opens : Wanted → M → M → List ℕ → Held S → Type 0) (refuses : Wanted → M → M → List ℕ → Type 0) (closes : M → M → Held S → Type 0) (from : Sources) (old new : M) where
+module _ {M S : Type 0} (g : Ghosts S) (by : Opener M (Held S)) (from : Sources) (old new : M) where
   -- The state at a source was asked, and this holds of it: that of a database, one that a server told, or what the script that
   -- was read makes of a new database.
   abbrev pub IsAskedOf : Source → (State → Type 0) → Type 0
-  IsAskedOf (Database path) Holds = IsAskedAt g opens refuses closes old new path.now Holds
+  IsAskedOf (Database path) Holds = IsAskedAt g by old new path.now Holds
   IsAskedOf (Server place) Holds = (new ≡ old) × (told : State) × from.tells place told × Holds told
   IsAskedOf (Script file) Holds = (new ≡ old) × (made : Accepted) × (text : List ℕ) × Gives from (path_of file) text × IsExecuted made text × Holds made.version
 
-module _ {M S : Type 0} (g : Ghosts S) (opens : Wanted → M → M → List ℕ → Held S → Type 0) (refuses : Wanted → M → M → List ℕ → Type 0) (closes : M → M → Held S → Type 0) (from : Sources) (old new : M) (writer0 writer : Option (List ℕ)) where
+module _ {M S : Type 0} (g : Ghosts S) (by : Opener M (Held S)) (from : Sources) (old new : M) (writer0 writer : Option (List ℕ)) where
   -- all that the state at a source says was written, and this is whole; no line of a script was left out, except what the kernel
   -- makes itself
   abbrev pub IsAnswered : Source → (says : State → List ℕ) → (IsWhole : State → Type 0) → Type 0
   IsAnswered (Script file) says IsWhole = (new ≡ old) × (made : Accepted) × (text : List ℕ) × Gives from (path_of file) text × IsExecuted made text × AreKernels made.left.items × Appends writer0 writer (says made.version) × IsWhole made.version
-  IsAnswered source says IsWhole = IsAskedOf g opens refuses closes from old new source (λ state. Appends writer0 writer (says state) × IsWhole state)
+  IsAnswered source says IsWhole = IsAskedOf g by from old new source (λ state. Appends writer0 writer (says state) × IsWhole state)
 
   -- in any case: it was not asked, and nothing was written; or it was, and a part at most
   abbrev pub IsAnsweredAtMost : Source → (says : State → List ℕ) → Type 0
   IsAnsweredAtMost source says =
-      (IsNotAsked g opens refuses closes old new source × (writer ≡ writer0))
-      ⊎ IsAskedOf g opens refuses closes from old new source (λ state. IsCutOff (says state) writer0 writer)
+      (IsNotAsked g by old new source × (writer ≡ writer0))
+      ⊎ IsAskedOf g by from old new source (λ state. IsCutOff (says state) writer0 writer)
 
   -- a session of a server replied to a line, and all of its reply was written, by this way of calling tables
   abbrev pub IsReplied : Source → (line : List ℕ) → (calls : List ℕ → List ℕ) → Type 0
@@ -252,56 +253,56 @@ module _ {M S : Type 0} (g : Ghosts S) (opens : Wanted → M → M → List ℕ 
   -- in any case: its words ask nothing, or it was answered in part at most
   abbrev pub HasAnsweredAtMost : QueryArgs → Type 0
   HasAnsweredAtMost asking =
-      (IsNotAsked g opens refuses closes old new asking.source × (writer ≡ writer0))
+      (IsNotAsked g by old new asking.source × (writer ≡ writer0))
       ⊎ ((asked : Question) × (question asking.verb asking.line.items asking.form ≡ Ok asked)
       × (names : TableNames) × (IsAnsweredAtMost asking.source (λ state. called asking.labels asking.form names (answer asked state))
       ⊎ (IsQuery asked × IsRepliedAtMost asking.source asking.line.items (called asking.labels asking.form names))))
 
-module _ {M S : Type 0} (g : Ghosts S) (opens : Wanted → M → M → List ℕ → Held S → Type 0) (refuses : Wanted → M → M → List ℕ → Type 0) (closes : M → M → Held S → Type 0) (from : Sources) (old new : M) (writer0 writer : Option (List ℕ)) where
+module _ {M S : Type 0} (g : Ghosts S) (by : Opener M (Held S)) (from : Sources) (old new : M) (writer0 writer : Option (List ℕ)) where
   -- what differs from a state that was found was written, or nothing differs
   abbrev pub IsShown : Fence → (found : State) → Shown → Source → Type 0
-  IsShown fence found Lines source = IsAnswered g opens refuses closes from old new writer0 writer source (changes_text fence found) (IsWholeChange fence found)
-  IsShown fence found Impact source = IsAskedOf g opens refuses closes from old new source (λ state. (text : List ℕ) × IsWithImpact fence found state text × Appends writer0 writer text × IsWholeChange fence found state)
-  IsShown fence found Status source = (writer ≡ writer0) × IsAskedOf g opens refuses closes from old new source (λ state. (changes_text fence found state ≡ []) × IsWholeChange fence found state)
+  IsShown fence found Lines source = IsAnswered g by from old new writer0 writer source (changes_text fence found) (IsWholeChange fence found)
+  IsShown fence found Impact source = IsAskedOf g by from old new source (λ state. (text : List ℕ) × IsWithImpact fence found state text × Appends writer0 writer text × IsWholeChange fence found state)
+  IsShown fence found Status source = (writer ≡ writer0) × IsAskedOf g by from old new source (λ state. (changes_text fence found state ≡ []) × IsWholeChange fence found state)
 
   -- tables were asked, or not
   abbrev pub IsAskedOrNot : Source → Type 0
-  IsAskedOrNot source = IsNotAsked g opens refuses closes old new source ⊎ IsAskedOf g opens refuses closes from old new source (λ state. Unit {0})
+  IsAskedOrNot source = IsNotAsked g by old new source ⊎ IsAskedOf g by from old new source (λ state. Unit {0})
 
   -- in any case: a part of it at most was written
   abbrev pub IsShownAtMost : Fence → (found : State) → Shown → Source → Type 0
-  IsShownAtMost fence found Lines source = IsAnsweredAtMost g opens refuses closes from old new writer0 writer source (changes_text fence found)
+  IsShownAtMost fence found Lines source = IsAnsweredAtMost g by from old new writer0 writer source (changes_text fence found)
   IsShownAtMost fence found Impact source =
       (writer ≡ writer0) × IsAskedOrNot source
-      ⊎ IsAskedOf g opens refuses closes from old new source (λ state. (text : List ℕ) × IsWithImpact fence found state text × IsCutOff text writer0 writer)
+      ⊎ IsAskedOf g by from old new source (λ state. (text : List ℕ) × IsWithImpact fence found state text × IsCutOff text writer0 writer)
   IsShownAtMost fence found Status source = (writer ≡ writer0) × IsAskedOrNot source
 
 -- A listing is read first, and then the tables at a source: of the input what is left.
-module _ {M S : Type 0} (g : Ghosts S) (opens : Wanted → M → M → List ℕ → Held S → Type 0) (refuses : Wanted → M → M → List ℕ → Type 0) (closes : M → M → Held S → Type 0) (from : Sources) (old new : M) (writer0 writer : Option (List ℕ)) where
+module _ {M S : Type 0} (g : Ghosts S) (by : Opener M (Held S)) (from : Sources) (old new : M) (writer0 writer : Option (List ℕ)) where
   -- what differs from the state of a listing was written, or nothing differs
   abbrev pub HasCompared : Option Word → Reach → Shown → Source → Type 0
   HasCompared file reach Lines source =
       (found : State) × (fence : Fence) × IsWholeFenced (Gives from file) reach found fence
-      × IsAnswered g opens refuses closes (after (rest_after file) from) old new writer0 writer source (changes_text fence found) (IsWholeChange fence found)
+      × IsAnswered g by (after (rest_after file) from) old new writer0 writer source (changes_text fence found) (IsWholeChange fence found)
   HasCompared file reach Impact source =
       (found : State) × (fence : Fence) × IsWholeFenced (Gives from file) reach found fence
-      × IsAskedOf g opens refuses closes (after (rest_after file) from) old new source (λ state. (text : List ℕ) × IsWithImpact fence found state text × Appends writer0 writer text × IsWholeChange fence found state)
+      × IsAskedOf g by (after (rest_after file) from) old new source (λ state. (text : List ℕ) × IsWithImpact fence found state text × Appends writer0 writer text × IsWholeChange fence found state)
   HasCompared file reach Status source =
       (found : State) × (fence : Fence) × IsWholeFenced (Gives from file) reach found fence
-      × (writer ≡ writer0) × IsAskedOf g opens refuses closes (after (rest_after file) from) old new source (λ state. (changes_text fence found state ≡ []) × IsWholeChange fence found state)
+      × (writer ≡ writer0) × IsAskedOf g by (after (rest_after file) from) old new source (λ state. (changes_text fence found state ≡ []) × IsWholeChange fence found state)
 
   -- tables were asked after a listing was read, or not
   abbrev pub IsComparedOrNot : Option Word → Source → Type 0
-  IsComparedOrNot file source = IsNotAsked g opens refuses closes old new source ⊎ IsAskedOf g opens refuses closes (after (rest_after file) from) old new source (λ state. Unit {0})
+  IsComparedOrNot file source = IsNotAsked g by old new source ⊎ IsAskedOf g by (after (rest_after file) from) old new source (λ state. Unit {0})
 
   -- In any case: there was no listing, or a part at most was written of what differs from it. A status alone writes nothing.
   abbrev pub HasComparedAtMost : Option Word → Reach → Shown → Source → Type 0
   HasComparedAtMost file reach Lines source =
-      (IsNotAsked g opens refuses closes old new source × (writer ≡ writer0))
+      (IsNotAsked g by old new source × (writer ≡ writer0))
       ⊎ ((found : State) × (fence : Fence) × IsFenced (Gives from file) reach found fence
-      × IsAnsweredAtMost g opens refuses closes (after (rest_after file) from) old new writer0 writer source (changes_text fence found))
+      × IsAnsweredAtMost g by (after (rest_after file) from) old new writer0 writer source (changes_text fence found))
   HasComparedAtMost file reach Impact source =
       (writer ≡ writer0) × IsComparedOrNot file source
       ⊎ ((found : State) × (fence : Fence) × IsFenced (Gives from file) reach found fence
-      × IsAskedOf g opens refuses closes (after (rest_after file) from) old new source (λ state. (text : List ℕ) × IsWithImpact fence found state text × IsCutOff text writer0 writer))
+      × IsAskedOf g by (after (rest_after file) from) old new source (λ state. (text : List ℕ) × IsWithImpact fence found state text × IsCutOff text writer0 writer))
   HasComparedAtMost file reach Status source = (writer ≡ writer0) × IsComparedOrNot file source

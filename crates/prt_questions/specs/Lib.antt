@@ -1,5 +1,3 @@
-pub mod Closing
-pub mod Sessions
 pub mod Analyses
 pub mod Asking
 pub mod Fencing

@@ -14,8 +14,8 @@ use Rattle.prt_version.specs.State.{State}
 use Rattle.prt_args.specs.declared.asking.Source.{Source}
 use Rattle.prt_args.specs.declared.asking.Source.TheVariants.{Script}
 use Rattle.prt_args.specs.declared.server_place.ServerPlace.{ServerPlace}
-use Rattle.prt_questions.specs.declared.local.Socket.{Socket}
-use Rattle.prt_questions.specs.declared.local.Socket.TheVariants.{Atomic, Status}
+use Rattle.prt_machine.specs.declared.local.Socket.{Socket}
+use Rattle.prt_machine.specs.declared.local.Socket.TheVariants.{Atomic, Status}
 
 -- ---- files and the standard input
 

@@ -13,7 +13,7 @@ use Rattle.prt_args.specs.declared.server_place.ServerPlace.{ServerPlace}
 use Rattle.prt_questions.specs.Asking.{called, said}
 use Rattle.prt_questions.specs.Sources.{AreTold, IsReply}
 use Rattle.prt_questions.specs.declared.inquiry.Inquiry.{Inquiry}
-use Rattle.prt_questions.specs.declared.local.Socket.{Socket}
+use Rattle.prt_machine.specs.declared.local.Socket.{Socket}
 use Rattle.prt_questions.specs.declared.remote.Told.{Told}
 use Rattle.prt_questions.specs.declared.remote.Told.TheVariants.{Reply, Tables}
 

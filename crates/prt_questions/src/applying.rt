@@ -13,24 +13,23 @@ ghost use Rattle.prt_version.specs.Change.{fold};
 
 use crate::apply_remote::apply_to_server;
 use crate::asking::{REFUSED, run_over_new, write_text};
-use crate::database_opener::{DatabaseOpener, Wanted};
-use crate::databases::DatabaseFiles;
 use crate::left::tell_left;
-use crate::local::LocalNet;
-use crate::opening::{close_at, open_publisher, report_unopened};
 use crate::planning::{Planned, plan_changes, report_unplanned};
 use crate::reading::read_whole;
-use crate::telling::tell;
 use prt_args::{ApplyArgs, DONE, FAULT, Fault, Target, report};
 use prt_command::Command;
 use prt_grace::Domain;
 use prt_import::Accepted;
-use prt_program::{ReadFiles, Refusal, cause_message};
+use prt_machine::{
+    DatabaseFiles, DatabaseOpener, Host, Streams, Wanted, close_at, open_publisher,
+    report_unopened, tell,
+};
+use prt_program::{Refusal, cause_message};
 use prt_publisher::Publisher;
 use prt_version::Version;
-use sqlite::{Alter, Connection};
+use sqlite::Alter;
 use std::alloc::Global;
-use std::io::{Read, Write};
+use std::io::Write;
 use std::sync::Wait;
 
 /// What is done with a plan.
@@ -96,16 +95,16 @@ fn report_unmade<S: Alter + Drop, W: Write, E: Write>(
 }
 
 /// Makes the tables of a publisher those that are wanted, and prints how. Returns the exit status.
-fn make<S: Alter + Drop, H: Wait, W: Write, E: Write>(
-    rt: &H,
+fn make<H: Host>(
+    rt: &H::Net,
     alloc: Global,
     path: &str,
-    publisher: &mut Publisher<S>,
+    publisher: &mut Publisher<H::Store>,
     domain: &Domain,
     wanted: &Version,
     manner: Manner,
-    output: &mut W,
-    errors: &mut E,
+    output: &mut H::Output,
+    errors: &mut H::Errors,
 ) -> u8
     requires { publisher.old.phase ≡ Ready }
     ensures status { (result ≡ DONE) ⊎ (result ≡ FAULT) }
@@ -113,9 +112,9 @@ fn make<S: Alter + Drop, H: Wait, W: Write, E: Write>(
     ensures file { publisher.new.ours_first ≡ publisher.old.ours_first }
     ensures dry { manner.is_dry_run ≡ true → publisher.new ≡ publisher.old }
     ensures made { result ≡ DONE → manner.is_dry_run ≡ false → (publisher.new.phase ≡ Ready) × AreAlike (line_state publisher.new.line) wanted.now }
-    ensures together { result ≡ DONE → manner.is_dry_run ≡ false → AreStoredTogether S.Store publisher.old (plan (line_state publisher.old.line) wanted.now) publisher.new }
-    ensures whole { result ≡ DONE → IsPrinted manner.shows_impact (line_state publisher.old.line) wanted.now (W.contents output.old) (W.contents output.new) }
-    ensures part { IsPrintedAtMost manner.shows_impact (line_state publisher.old.line) wanted.now (W.contents output.old) (W.contents output.new) }
+    ensures together { result ≡ DONE → manner.is_dry_run ≡ false → AreStoredTogether H.Store.Store publisher.old (plan (line_state publisher.old.line) wanted.now) publisher.new }
+    ensures whole { result ≡ DONE → IsPrinted manner.shows_impact (line_state publisher.old.line) wanted.now (H.Output.contents output.old) (H.Output.contents output.new) }
+    ensures part { IsPrintedAtMost manner.shows_impact (line_state publisher.old.line) wanted.now (H.Output.contents output.old) (H.Output.contents output.new) }
 {
     let found = publisher.published();
     let Planned { commands, text } = match plan_changes(alloc, found, wanted, manner.shows_impact) {
@@ -143,25 +142,18 @@ fn wanted_by(manner: Manner) -> Wanted
 
 /// Makes the tables of the database at a path those that are wanted, in one transaction, and prints how. It is created if it
 /// is missing, unless changes are only printed. Returns the exit status.
-pub(crate) fn apply_to_database<
-    S: Alter + Drop,
-    M: DatabaseOpener<Connection<S>> + Drop,
-    F,
-    H: Wait + Copy + Drop,
-    W: Write,
-    E: Write,
->(
-    databases: &mut DatabaseFiles<'_, S, M, F, H>,
+pub(crate) fn apply_to_database<H: Host>(
+    databases: &mut DatabaseFiles<'_, H>,
     alloc: Global,
     path: &str,
     wanted: &Version,
     manner: Manner,
-    output: &mut W,
-    errors: &mut E,
+    output: &mut H::Output,
+    errors: &mut H::Errors,
 ) -> u8
     ensures status { (result ≡ DONE) ⊎ (result ≡ FAULT) }
-    ensures whole { result ≡ DONE → IsMadeAt S.Store M.opens M.closes databases.old.machine databases.new.machine (W.contents output.old) (W.contents output.new) path.now manner.shows_impact manner.is_dry_run wanted.now }
-    ensures at_most { IsMadeAtMost S.Store M.opens M.refuses M.closes databases.old.machine databases.new.machine (W.contents output.old) (W.contents output.new) path.now manner.shows_impact manner.is_dry_run wanted.now }
+    ensures whole { result ≡ DONE → IsMadeAt H.Store.Store H.Opener.DatabaseOpener databases.old.machine databases.new.machine (H.Output.contents output.old) (H.Output.contents output.new) path.now manner.shows_impact manner.is_dry_run wanted.now }
+    ensures at_most { IsMadeAtMost H.Store.Store H.Opener.DatabaseOpener databases.old.machine databases.new.machine (H.Output.contents output.old) (H.Output.contents output.new) path.now manner.shows_impact manner.is_dry_run wanted.now }
 {
     let rt = databases.rt;
     let opened = open_publisher(&mut databases.machine, alloc, path, wanted_by(manner));
@@ -169,7 +161,7 @@ pub(crate) fn apply_to_database<
         Ok(made) => made,
         Err(refused) => return report_unopened(alloc, path, refused, output, errors),
     };
-    let status = make(
+    let status = make::<H>(
         &rt,
         alloc,
         path,
@@ -190,19 +182,19 @@ pub(crate) fn apply_to_database<
 /// # Errors
 ///
 /// The exit status: it can't be read, a line is refused, or memory is. Standard error has the cause.
-fn read_script<F: ReadFiles, R: Read, W: Write, E: Write>(
-    files: &F,
+fn read_script<H: Streams>(
+    files: &H::Files,
     alloc: Global,
     file: Option<&str>,
-    input: &mut R,
-    output: &mut W,
-    errors: &mut E,
+    input: &mut H::Input,
+    output: &mut H::Output,
+    errors: &mut H::Errors,
 ) -> Result<Accepted, u8>
-    ensures script { IfOk result (IsScript (IsRead (IsFileOf F.opens F.Opened.remaining files.now) (R.remaining input.old) (path_of file.entry))) }
+    ensures script { IfOk result (IsScript (IsRead (IsFileOf H.Files.opens H.Files.Opened.remaining files.now) (H.Input.remaining input.old) (path_of file.entry))) }
     ensures fault { IfErr result (λ status. (status ≡ REFUSED) ⊎ (status ≡ FAULT)) }
-    ensures unwritten { W.contents output.new ≡ W.contents output.old }
+    ensures unwritten { H.Output.contents output.new ≡ H.Output.contents output.old }
 {
-    let script = read_whole(files, alloc, file, input, output, errors)?;
+    let script = read_whole::<H, _>(files, alloc, file, input, output, errors)?;
     let made = run_over_new(alloc, &script, output, errors)?;
     if tell_left(alloc, file, &made.left, errors) == DONE {
         Ok(made)
@@ -217,27 +209,19 @@ fn read_script<F: ReadFiles, R: Read, W: Write, E: Write>(
 /// The status is 0 if the tables are so, also if nothing was to be changed. It is 1 if a line of the script is refused, which
 /// standard error names: nothing is changed then. It is 3 for a fault of reading, of opening, of the store, of the server, of
 /// memory or of the writer. If the changes can't be printed, they were made nevertheless.
-pub(crate) fn apply<
-    S: Alter + Drop,
-    M: DatabaseOpener<Connection<S>> + Drop,
-    F: ReadFiles,
-    N: LocalNet + Wait + Copy + Drop,
-    R: Read,
-    W: Write,
-    E: Write,
->(
-    databases: &mut DatabaseFiles<'_, S, M, F, N>,
+pub(crate) fn apply<H: Host>(
+    databases: &mut DatabaseFiles<'_, H>,
     alloc: Global,
     applying: &ApplyArgs<'_>,
-    input: &mut R,
-    output: &mut W,
-    errors: &mut E,
+    input: &mut H::Input,
+    output: &mut H::Output,
+    errors: &mut H::Errors,
 ) -> u8
     ensures status { (result ≡ DONE) ⊎ ((result ≡ REFUSED) ⊎ (result ≡ FAULT)) }
-    ensures whole { result ≡ DONE → HasApplied S.Store M.opens M.refuses M.closes (sources_of F.opens F.Opened.remaining databases.old.files.now N.reaches N.Stream.remaining databases.old.rt (R.remaining input.old)) databases.old.machine databases.new.machine (W.contents output.old) (W.contents output.new) applying.now }
-    ensures at_most { HasAppliedAtMost S.Store M.opens M.refuses M.closes (sources_of F.opens F.Opened.remaining databases.old.files.now N.reaches N.Stream.remaining databases.old.rt (R.remaining input.old)) databases.old.machine databases.new.machine (W.contents output.old) (W.contents output.new) applying.now }
+    ensures whole { result ≡ DONE → HasApplied H.Store.Store H.Opener.DatabaseOpener (sources_of H.Files.opens H.Files.Opened.remaining databases.old.files.now H.Net.reaches H.Net.Stream.remaining databases.old.rt (H.Input.remaining input.old)) databases.old.machine databases.new.machine (H.Output.contents output.old) (H.Output.contents output.new) applying.now }
+    ensures at_most { HasAppliedAtMost H.Store.Store H.Opener.DatabaseOpener (sources_of H.Files.opens H.Files.Opened.remaining databases.old.files.now H.Net.reaches H.Net.Stream.remaining databases.old.rt (H.Input.remaining input.old)) databases.old.machine databases.new.machine (H.Output.contents output.old) (H.Output.contents output.new) applying.now }
 {
-    let read = read_script(databases.files, alloc, applying.file, input, output, errors);
+    let read = read_script::<H>(databases.files, alloc, applying.file, input, output, errors);
     let made = match read {
         Ok(made) => made,
         Err(status) => return status,

@@ -13,25 +13,22 @@ ghost use Rattle.prt_questions.specs.Told.{IsQueryLine, IsSaidOf};
 ghost use Rattle.prt_version.specs.State.{State};
 ghost use Rattle.prt_args.specs.declared.asking.Source.TheVariants.{Server};
 
-use crate::database_opener::{DatabaseOpener, Wanted};
-use crate::databases::DatabaseFiles;
 use crate::inquiry::{Inquiry, called, said};
 use crate::left::{or_left, tell_left, tell_left_out};
-use crate::local::LocalNet;
-use crate::opening::{close_at, open_desk, report_unopened};
 use crate::reading::{names_for, read_whole, report_no_memory};
 use crate::remote::{Told, ask_line, read_tables};
-use crate::telling::tell;
 use prt_args::{DONE, FAULT, Form, QueryArgs, STANDARD_INPUT, ServerPlace, Source};
 use prt_ask::{AnswerError, Answered, Question, question_of};
 use prt_import::{Accepted, accept};
-use prt_program::{ReadFiles, Refusal, cause_message, question_message};
+use prt_machine::{
+    DatabaseFiles, DatabaseOpener, Host, LocalNet, Streams, Wanted, close_at, open_desk,
+    report_unopened, tell,
+};
+use prt_program::{Refusal, cause_message, question_message};
 use prt_replies::{Reply, Text, write_reply};
-use sqlite::{Alter, Connection};
 use std::alloc::{AllocError, Global};
 use std::fmt::Display;
-use std::io::{Read, Write};
-use std::sync::Wait;
+use std::io::Write;
 
 /// The exit status if the words ask nothing, if a rule or a route has no line, if a line is refused or can't be kept, and if
 /// anything differs.
@@ -145,26 +142,19 @@ fn write_answer<P: Display, W: Write, E: Write>(
 }
 
 /// Asks the database at a path, which is opened and closed, and returns the exit status.
-fn ask_database<
-    S: Alter + Drop,
-    M: DatabaseOpener<Connection<S>> + Drop,
-    F,
-    H: Wait + Copy + Drop,
-    W: Write,
-    E: Write,
->(
-    databases: &mut DatabaseFiles<'_, S, M, F, H>,
+fn ask_database<H: Host, W: Write>(
+    databases: &mut DatabaseFiles<'_, H>,
     alloc: Global,
     path: &str,
     inquiry: &Inquiry<'_>,
     output: &mut W,
-    errors: &mut E,
+    errors: &mut H::Errors,
 ) -> u8
     ensures status { (result ≡ DONE) ⊎ ((result ≡ REFUSED) ⊎ (result ≡ FAULT)) }
-    ensures whole { result ≡ DONE → IsAskedAt S.Store M.opens M.refuses M.closes databases.old.machine databases.new.machine path.now (λ state. Appends (W.contents output.old) (W.contents output.new) (said inquiry.now state) × IsWholeAnswer inquiry.now.question state) }
-    ensures there { result ≡ DONE → M.is_there databases.old.machine path.now }
-    ensures at_most { (IsNotOpened S.Store M.opens M.refuses M.closes databases.old.machine databases.new.machine Wanted.Ours path.now × (W.contents output.new ≡ W.contents output.old))
-        ⊎ IsAskedAt S.Store M.opens M.refuses M.closes databases.old.machine databases.new.machine path.now (λ state. IsCutOff (said inquiry.now state) (W.contents output.old) (W.contents output.new)) }
+    ensures whole { result ≡ DONE → IsAskedAt H.Store.Store H.Opener.DatabaseOpener databases.old.machine databases.new.machine path.now (λ state. Appends (W.contents output.old) (W.contents output.new) (said inquiry.now state) × IsWholeAnswer inquiry.now.question state) }
+    ensures there { result ≡ DONE → H.Opener.is_there databases.old.machine path.now }
+    ensures at_most { (IsNotOpened H.Store.Store H.Opener.DatabaseOpener databases.old.machine databases.new.machine Wanted.Ours path.now × (W.contents output.new ≡ W.contents output.old))
+        ⊎ IsAskedAt H.Store.Store H.Opener.DatabaseOpener databases.old.machine databases.new.machine path.now (λ state. IsCutOff (said inquiry.now state) (W.contents output.old) (W.contents output.new)) }
 {
     let rt = databases.rt;
     let opened = open_desk(&mut databases.machine, rt, alloc, path, Wanted::Ours);
@@ -292,20 +282,20 @@ pub(crate) fn run_over_new<W: Write, E: Write>(
 
 /// Asks what a script makes of a new database, tells which of its lines are refused and what its comments say was left out,
 /// and returns the exit status.
-fn ask_script<F: ReadFiles, R: Read, W: Write, E: Write>(
-    files: &F,
+fn ask_script<H: Streams, W: Write>(
+    files: &H::Files,
     alloc: Global,
     file: Option<&str>,
     inquiry: &Inquiry<'_>,
-    input: &mut R,
+    input: &mut H::Input,
     output: &mut W,
-    errors: &mut E,
+    errors: &mut H::Errors,
 ) -> u8
     ensures status { (result ≡ DONE) ⊎ ((result ≡ REFUSED) ⊎ (result ≡ FAULT)) }
-    ensures whole { result ≡ DONE → (made : Accepted) × (text : List ℕ) × IsRead (IsFileOf F.opens F.Opened.remaining files.now) (R.remaining input.old) (path_of file.entry) text × IsExecuted made text × AreKernels made.left.items × Appends (W.contents output.old) (W.contents output.new) (said inquiry.now made.version) × IsWholeAnswer inquiry.now.question made.version }
-    ensures part { (W.contents output.new ≡ W.contents output.old) ⊎ ((made : Accepted) × (text : List ℕ) × IsRead (IsFileOf F.opens F.Opened.remaining files.now) (R.remaining input.old) (path_of file.entry) text × IsExecuted made text × IsCutOff (said inquiry.now made.version) (W.contents output.old) (W.contents output.new)) }
+    ensures whole { result ≡ DONE → (made : Accepted) × (text : List ℕ) × IsRead (IsFileOf H.Files.opens H.Files.Opened.remaining files.now) (H.Input.remaining input.old) (path_of file.entry) text × IsExecuted made text × AreKernels made.left.items × Appends (W.contents output.old) (W.contents output.new) (said inquiry.now made.version) × IsWholeAnswer inquiry.now.question made.version }
+    ensures part { (W.contents output.new ≡ W.contents output.old) ⊎ ((made : Accepted) × (text : List ℕ) × IsRead (IsFileOf H.Files.opens H.Files.Opened.remaining files.now) (H.Input.remaining input.old) (path_of file.entry) text × IsExecuted made text × IsCutOff (said inquiry.now made.version) (W.contents output.old) (W.contents output.new)) }
 {
-    let script = match read_whole(files, alloc, file, input, output, errors) {
+    let script = match read_whole::<H, _>(files, alloc, file, input, output, errors) {
         Ok(script) => script,
         Err(status) => return status,
     };
@@ -324,32 +314,24 @@ fn ask_script<F: ReadFiles, R: Read, W: Write, E: Write>(
 }
 
 /// Asks the tables at a source, and returns the exit status.
-pub(crate) fn ask_source<
-    S: Alter + Drop,
-    M: DatabaseOpener<Connection<S>> + Drop,
-    F: ReadFiles,
-    N: LocalNet + Wait + Copy + Drop,
-    R: Read,
-    W: Write,
-    E: Write,
->(
-    databases: &mut DatabaseFiles<'_, S, M, F, N>,
+pub(crate) fn ask_source<H: Host, W: Write>(
+    databases: &mut DatabaseFiles<'_, H>,
     alloc: Global,
     source: &Source<'_>,
     inquiry: &Inquiry<'_>,
-    input: &mut R,
+    input: &mut H::Input,
     output: &mut W,
-    errors: &mut E,
+    errors: &mut H::Errors,
 ) -> u8
     ensures status { (result ≡ DONE) ⊎ ((result ≡ REFUSED) ⊎ (result ≡ FAULT)) }
-    ensures whole { result ≡ DONE → IsAnswered S.Store M.opens M.refuses M.closes (sources_of F.opens F.Opened.remaining databases.old.files.now N.reaches N.Stream.remaining databases.old.rt (R.remaining input.old)) databases.old.machine databases.new.machine (W.contents output.old) (W.contents output.new) source.now (said inquiry.now) (IsWholeAnswer inquiry.now.question) }
-    ensures at_most { IsAnsweredAtMost S.Store M.opens M.refuses M.closes (sources_of F.opens F.Opened.remaining databases.old.files.now N.reaches N.Stream.remaining databases.old.rt (R.remaining input.old)) databases.old.machine databases.new.machine (W.contents output.old) (W.contents output.new) source.now (said inquiry.now) }
+    ensures whole { result ≡ DONE → IsAnswered H.Store.Store H.Opener.DatabaseOpener (sources_of H.Files.opens H.Files.Opened.remaining databases.old.files.now H.Net.reaches H.Net.Stream.remaining databases.old.rt (H.Input.remaining input.old)) databases.old.machine databases.new.machine (W.contents output.old) (W.contents output.new) source.now (said inquiry.now) (IsWholeAnswer inquiry.now.question) }
+    ensures at_most { IsAnsweredAtMost H.Store.Store H.Opener.DatabaseOpener (sources_of H.Files.opens H.Files.Opened.remaining databases.old.files.now H.Net.reaches H.Net.Stream.remaining databases.old.rt (H.Input.remaining input.old)) databases.old.machine databases.new.machine (W.contents output.old) (W.contents output.new) source.now (said inquiry.now) }
 {
     match source {
         Source::Database(path) => ask_database(databases, alloc, path, inquiry, output, errors),
         Source::Server(place) => ask_server(&databases.rt, alloc, place, inquiry, output, errors),
         Source::Script(file) => {
-            ask_script(
+            ask_script::<H, _>(
                 databases.files,
                 alloc,
                 *file,
@@ -363,29 +345,21 @@ pub(crate) fn ask_source<
 }
 
 /// Asks the tables at a source, or a server by the line that asks the question, and returns the exit status.
-fn ask_tables<
-    S: Alter + Drop,
-    M: DatabaseOpener<Connection<S>> + Drop,
-    F: ReadFiles,
-    N: LocalNet + Wait + Copy + Drop,
-    R: Read,
-    W: Write,
-    E: Write,
->(
-    databases: &mut DatabaseFiles<'_, S, M, F, N>,
+fn ask_tables<H: Host>(
+    databases: &mut DatabaseFiles<'_, H>,
     alloc: Global,
     asking: &QueryArgs<'_>,
     inquiry: &Inquiry<'_>,
-    input: &mut R,
-    output: &mut W,
-    errors: &mut E,
+    input: &mut H::Input,
+    output: &mut H::Output,
+    errors: &mut H::Errors,
 ) -> u8
     requires { question asking.now.verb asking.now.line.items asking.now.form ≡ Ok inquiry.now.question }
     ensures status { (result ≡ DONE) ⊎ ((result ≡ REFUSED) ⊎ (result ≡ FAULT)) }
-    ensures whole { result ≡ DONE → IsAnswered S.Store M.opens M.refuses M.closes (sources_of F.opens F.Opened.remaining databases.old.files.now N.reaches N.Stream.remaining databases.old.rt (R.remaining input.old)) databases.old.machine databases.new.machine (W.contents output.old) (W.contents output.new) asking.now.source (said inquiry.now) (IsWholeAnswer inquiry.now.question)
-        ⊎ (IsQuery inquiry.now.question × IsReplied S.Store M.opens M.refuses M.closes (sources_of F.opens F.Opened.remaining databases.old.files.now N.reaches N.Stream.remaining databases.old.rt (R.remaining input.old)) databases.old.machine databases.new.machine (W.contents output.old) (W.contents output.new) asking.now.source asking.now.line.items (called inquiry.now.labels inquiry.now.form (names_of inquiry.now.names.now))) }
-    ensures at_most { IsAnsweredAtMost S.Store M.opens M.refuses M.closes (sources_of F.opens F.Opened.remaining databases.old.files.now N.reaches N.Stream.remaining databases.old.rt (R.remaining input.old)) databases.old.machine databases.new.machine (W.contents output.old) (W.contents output.new) asking.now.source (said inquiry.now)
-        ⊎ (IsQuery inquiry.now.question × IsRepliedAtMost S.Store M.opens M.refuses M.closes (sources_of F.opens F.Opened.remaining databases.old.files.now N.reaches N.Stream.remaining databases.old.rt (R.remaining input.old)) databases.old.machine databases.new.machine (W.contents output.old) (W.contents output.new) asking.now.source asking.now.line.items (called inquiry.now.labels inquiry.now.form (names_of inquiry.now.names.now))) }
+    ensures whole { result ≡ DONE → IsAnswered H.Store.Store H.Opener.DatabaseOpener (sources_of H.Files.opens H.Files.Opened.remaining databases.old.files.now H.Net.reaches H.Net.Stream.remaining databases.old.rt (H.Input.remaining input.old)) databases.old.machine databases.new.machine (H.Output.contents output.old) (H.Output.contents output.new) asking.now.source (said inquiry.now) (IsWholeAnswer inquiry.now.question)
+        ⊎ (IsQuery inquiry.now.question × IsReplied H.Store.Store H.Opener.DatabaseOpener (sources_of H.Files.opens H.Files.Opened.remaining databases.old.files.now H.Net.reaches H.Net.Stream.remaining databases.old.rt (H.Input.remaining input.old)) databases.old.machine databases.new.machine (H.Output.contents output.old) (H.Output.contents output.new) asking.now.source asking.now.line.items (called inquiry.now.labels inquiry.now.form (names_of inquiry.now.names.now))) }
+    ensures at_most { IsAnsweredAtMost H.Store.Store H.Opener.DatabaseOpener (sources_of H.Files.opens H.Files.Opened.remaining databases.old.files.now H.Net.reaches H.Net.Stream.remaining databases.old.rt (H.Input.remaining input.old)) databases.old.machine databases.new.machine (H.Output.contents output.old) (H.Output.contents output.new) asking.now.source (said inquiry.now)
+        ⊎ (IsQuery inquiry.now.question × IsRepliedAtMost H.Store.Store H.Opener.DatabaseOpener (sources_of H.Files.opens H.Files.Opened.remaining databases.old.files.now H.Net.reaches H.Net.Stream.remaining databases.old.rt (H.Input.remaining input.old)) databases.old.machine databases.new.machine (H.Output.contents output.old) (H.Output.contents output.new) asking.now.source asking.now.line.items (called inquiry.now.labels inquiry.now.form (names_of inquiry.now.names.now))) }
 {
     let (source, rt) = (&asking.source, databases.rt);
     match session_of(source, &inquiry.question) {
@@ -403,25 +377,17 @@ fn ask_tables<
 /// A database is opened and closed. There has to be one at its path, and no rule or route of it changes; its tables may be
 /// made those of the newest format. Of a server or of a script no database is touched. A server is sent `get` and `show`
 /// by their line, unless JSON is wanted; its feed and its sessions both answer that.
-pub(crate) fn ask<
-    S: Alter + Drop,
-    M: DatabaseOpener<Connection<S>> + Drop,
-    F: ReadFiles,
-    N: LocalNet + Wait + Copy + Drop,
-    R: Read,
-    W: Write,
-    E: Write,
->(
-    databases: &mut DatabaseFiles<'_, S, M, F, N>,
+pub(crate) fn ask<H: Host>(
+    databases: &mut DatabaseFiles<'_, H>,
     alloc: Global,
     asking: &QueryArgs<'_>,
-    input: &mut R,
-    output: &mut W,
-    errors: &mut E,
+    input: &mut H::Input,
+    output: &mut H::Output,
+    errors: &mut H::Errors,
 ) -> u8
     ensures status { (result ≡ DONE) ⊎ ((result ≡ REFUSED) ⊎ (result ≡ FAULT)) }
-    ensures whole { result ≡ DONE → HasAnswered S.Store M.opens M.refuses M.closes (sources_of F.opens F.Opened.remaining databases.old.files.now N.reaches N.Stream.remaining databases.old.rt (R.remaining input.old)) databases.old.machine databases.new.machine (W.contents output.old) (W.contents output.new) asking.now }
-    ensures at_most { HasAnsweredAtMost S.Store M.opens M.refuses M.closes (sources_of F.opens F.Opened.remaining databases.old.files.now N.reaches N.Stream.remaining databases.old.rt (R.remaining input.old)) databases.old.machine databases.new.machine (W.contents output.old) (W.contents output.new) asking.now }
+    ensures whole { result ≡ DONE → HasAnswered H.Store.Store H.Opener.DatabaseOpener (sources_of H.Files.opens H.Files.Opened.remaining databases.old.files.now H.Net.reaches H.Net.Stream.remaining databases.old.rt (H.Input.remaining input.old)) databases.old.machine databases.new.machine (H.Output.contents output.old) (H.Output.contents output.new) asking.now }
+    ensures at_most { HasAnsweredAtMost H.Store.Store H.Opener.DatabaseOpener (sources_of H.Files.opens H.Files.Opened.remaining databases.old.files.now H.Net.reaches H.Net.Stream.remaining databases.old.rt (H.Input.remaining input.old)) databases.old.machine databases.new.machine (H.Output.contents output.old) (H.Output.contents output.new) asking.now }
 {
     let question = match question_of(asking.verb, &asking.line, asking.form) {
         Ok(question) => question,

@@ -1,29 +1,24 @@
 //! Whether claims about all packets hold.
-ghost use Rattle.std.specs.Prelude.{◌≡◌, ◌⊎◌, ◌++◌, [], IfOk, OnOk, true};
+ghost use Rattle.std.specs.Prelude.{◌≡◌, ◌⊎◌, ◌++◌, [], IfOk, OnOk, true, ◌≢◌, false};
 ghost use Rattle.std.specs.Io.KnownBytes.{Appends};
-ghost use Rattle.prt_questions.specs.Analyses.{IsAsserted, IsAssertedAtMost, IsFoundAtMost, IsFoundOf, breach_lines, breaches_text};
+ghost use Rattle.prt_questions.specs.Analyses.{IsAsserted, IsAssertedAtMost, IsFoundAtMost, IsFoundOf, IsUnreadable, breach_lines, breaches_text};
 ghost use Rattle.prt_questions.specs.Asking.{IsCutOff};
 ghost use Rattle.prt_questions.specs.Sources.{Gives, IsFileOf, IsRead, after, path_of, rest_by, sources_of};
 
 use crate::asking::{REFUSED, write_text};
-use crate::database_opener::DatabaseOpener;
-use crate::databases::DatabaseFiles;
 use crate::impact::report_undivided;
-use crate::local::LocalNet;
 use crate::reading::{is_newline, read_whole, report_no_memory};
 use crate::tables::{Tables, tables_at};
-use crate::telling::tell;
 use prt_args::{AssertArgs, DONE, FAULT, STANDARD_INPUT};
 use prt_claims::{
     BadClaim, BadLine, Breach, Checked, ClaimFault, bad_word, check_claims, push_breach_line,
 };
 use prt_explain::explanation_text;
-use prt_program::{ReadFiles, Refusal, complaint, shown_text};
+use prt_machine::{DatabaseFiles, Host, Streams, tell};
+use prt_program::{Refusal, complaint, shown_text};
 use prt_version::Version;
-use sqlite::{Alter, Connection};
 use std::alloc::{AllocError, Global};
-use std::io::{Read, Write};
-use std::sync::Wait;
+use std::io::Write;
 
 /// The exit status if a claim can't be read.
 pub const UNREADABLE: u8 = 2;
@@ -114,7 +109,8 @@ fn text_of(
 
 /// Checks whether each line is a claim, or none at all.
 fn is_readable(checked: &Checked) -> bool
-    ensures { result ≡ true → checked.now.bad.items ≡ [] }
+    ensures readable { result ≡ true → checked.now.bad.items ≡ [] }
+    ensures unreadable { result ≡ false → checked.now.bad.items ≢ [] }
 {
     checked.bad.is_empty()
 }
@@ -155,22 +151,23 @@ fn write_breaches<W: Write, E: Write>(
 
 /// Checks the claims of a file over tables, and writes each that doesn't hold with a packet. The exit status is `REFUSED` if
 /// there is one, and `UNREADABLE` if a line is no claim, which standard error names: then nothing is written.
-fn assert_over<F: ReadFiles, R: Read, W: Write, E: Write>(
-    files: &F,
+fn assert_over<H: Streams>(
+    files: &H::Files,
     alloc: Global,
     tables: &Tables,
     asserting: &AssertArgs<'_>,
-    input: &mut R,
-    output: &mut W,
-    errors: &mut E,
+    input: &mut H::Input,
+    output: &mut H::Output,
+    errors: &mut H::Errors,
 ) -> u8
     requires { (tables.now.left ≡ DONE) ⊎ (tables.now.left ≡ REFUSED) }
     ensures status { (result ≡ DONE) ⊎ ((result ≡ REFUSED) ⊎ ((result ≡ UNREADABLE) ⊎ (result ≡ FAULT))) }
-    ensures found { (result ≡ DONE) ⊎ (result ≡ REFUSED) → IsAsserted (IsRead (IsFileOf F.opens F.Opened.remaining files.now) (R.remaining input.old) (path_of asserting.now.file)) (W.contents output.old) (W.contents output.new) asserting.now result tables.now.version }
-    ensures at_most { IsAssertedAtMost (IsRead (IsFileOf F.opens F.Opened.remaining files.now) (R.remaining input.old) (path_of asserting.now.file)) (W.contents output.old) (W.contents output.new) asserting.now tables.now.version }
+    ensures found { (result ≡ DONE) ⊎ (result ≡ REFUSED) → IsAsserted (IsRead (IsFileOf H.Files.opens H.Files.Opened.remaining files.now) (H.Input.remaining input.old) (path_of asserting.now.file)) (H.Output.contents output.old) (H.Output.contents output.new) asserting.now result tables.now.version }
+    ensures unreadable { result ≡ UNREADABLE → IsUnreadable (IsRead (IsFileOf H.Files.opens H.Files.Opened.remaining files.now) (H.Input.remaining input.old) (path_of asserting.now.file)) (H.Output.contents output.old) (H.Output.contents output.new) tables.now.version }
+    ensures at_most { IsAssertedAtMost (IsRead (IsFileOf H.Files.opens H.Files.Opened.remaining files.now) (H.Input.remaining input.old) (path_of asserting.now.file)) (H.Output.contents output.old) (H.Output.contents output.new) asserting.now tables.now.version }
     ensures left { result ≡ DONE → tables.now.left ≡ DONE }
 {
-    let text = match read_whole(files, alloc, asserting.file, input, output, errors) {
+    let text = match read_whole::<H, _>(files, alloc, asserting.file, input, output, errors) {
         Ok(text) => text,
         Err(status) => return status,
     };
@@ -198,30 +195,23 @@ fn assert_over<F: ReadFiles, R: Read, W: Write, E: Write>(
 /// The status is 0 if all hold. It is 1 if one doesn't, which is written with a packet that shows it, or if a line of the
 /// script is refused. It is 2 if a claim can't be read, and 3 as of `ask`, and if the rules divide packets into too many
 /// kinds. No rule and no route changes.
-pub(crate) fn assert_claims<
-    S: Alter + Drop,
-    M: DatabaseOpener<Connection<S>> + Drop,
-    F: ReadFiles,
-    N: LocalNet + Wait + Copy + Drop,
-    R: Read,
-    W: Write,
-    E: Write,
->(
-    databases: &mut DatabaseFiles<'_, S, M, F, N>,
+pub(crate) fn assert_claims<H: Host>(
+    databases: &mut DatabaseFiles<'_, H>,
     alloc: Global,
     asserting: &AssertArgs<'_>,
-    input: &mut R,
-    output: &mut W,
-    errors: &mut E,
+    input: &mut H::Input,
+    output: &mut H::Output,
+    errors: &mut H::Errors,
 ) -> u8
     ensures status { (result ≡ DONE) ⊎ ((result ≡ REFUSED) ⊎ ((result ≡ UNREADABLE) ⊎ (result ≡ FAULT))) }
-    ensures found { (result ≡ DONE) ⊎ (result ≡ REFUSED) → IsFoundOf S.Store M.opens M.refuses M.closes (sources_of F.opens F.Opened.remaining databases.old.files.now N.reaches N.Stream.remaining databases.old.rt (R.remaining input.old)) databases.old.machine databases.new.machine asserting.now.source result (IsAsserted (Gives (after (rest_by asserting.now.source) (sources_of F.opens F.Opened.remaining databases.old.files.now N.reaches N.Stream.remaining databases.old.rt (R.remaining input.old))) (path_of asserting.now.file)) (W.contents output.old) (W.contents output.new) asserting.now result) }
-    ensures at_most { IsFoundAtMost S.Store M.opens M.refuses M.closes (sources_of F.opens F.Opened.remaining databases.old.files.now N.reaches N.Stream.remaining databases.old.rt (R.remaining input.old)) databases.old.machine databases.new.machine (W.contents output.old) (W.contents output.new) asserting.now.source (IsAssertedAtMost (Gives (after (rest_by asserting.now.source) (sources_of F.opens F.Opened.remaining databases.old.files.now N.reaches N.Stream.remaining databases.old.rt (R.remaining input.old))) (path_of asserting.now.file)) (W.contents output.old) (W.contents output.new) asserting.now) }
+    ensures found { (result ≡ DONE) ⊎ (result ≡ REFUSED) → IsFoundOf H.Store.Store H.Opener.DatabaseOpener (sources_of H.Files.opens H.Files.Opened.remaining databases.old.files.now H.Net.reaches H.Net.Stream.remaining databases.old.rt (H.Input.remaining input.old)) databases.old.machine databases.new.machine asserting.now.source result (IsAsserted (Gives (after (rest_by asserting.now.source) (sources_of H.Files.opens H.Files.Opened.remaining databases.old.files.now H.Net.reaches H.Net.Stream.remaining databases.old.rt (H.Input.remaining input.old))) (path_of asserting.now.file)) (H.Output.contents output.old) (H.Output.contents output.new) asserting.now result) }
+    ensures unreadable { result ≡ UNREADABLE → IsFoundOf H.Store.Store H.Opener.DatabaseOpener (sources_of H.Files.opens H.Files.Opened.remaining databases.old.files.now H.Net.reaches H.Net.Stream.remaining databases.old.rt (H.Input.remaining input.old)) databases.old.machine databases.new.machine asserting.now.source UNREADABLE (IsUnreadable (Gives (after (rest_by asserting.now.source) (sources_of H.Files.opens H.Files.Opened.remaining databases.old.files.now H.Net.reaches H.Net.Stream.remaining databases.old.rt (H.Input.remaining input.old))) (path_of asserting.now.file)) (H.Output.contents output.old) (H.Output.contents output.new)) }
+    ensures at_most { IsFoundAtMost H.Store.Store H.Opener.DatabaseOpener (sources_of H.Files.opens H.Files.Opened.remaining databases.old.files.now H.Net.reaches H.Net.Stream.remaining databases.old.rt (H.Input.remaining input.old)) databases.old.machine databases.new.machine (H.Output.contents output.old) (H.Output.contents output.new) asserting.now.source (IsAssertedAtMost (Gives (after (rest_by asserting.now.source) (sources_of H.Files.opens H.Files.Opened.remaining databases.old.files.now H.Net.reaches H.Net.Stream.remaining databases.old.rt (H.Input.remaining input.old))) (path_of asserting.now.file)) (H.Output.contents output.old) (H.Output.contents output.new) asserting.now) }
 {
     let (files, source) = (databases.files, &asserting.source);
     let tables = match tables_at(databases, alloc, source, input, output, errors) {
         Ok(tables) => tables,
         Err(status) => return status,
     };
-    assert_over(files, alloc, &tables, asserting, input, output, errors)
+    assert_over::<H>(files, alloc, &tables, asserting, input, output, errors)
 }

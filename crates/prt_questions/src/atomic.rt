@@ -5,7 +5,6 @@ ghost use Rattle.prt_questions.specs.Submitting.{AreMade, change_text, submissio
 ghost use Rattle.prt_replies.specs.Reply.{replies_text};
 ghost use Rattle.prt_session.specs.Atomic.{accepted_after};
 
-use crate::local::{LocalNet, Socket};
 use crate::reading::is_newline;
 use crate::remote::{PATIENCE, ServerError};
 use itoa::Buffer;
@@ -13,6 +12,7 @@ use prt_args::ServerPlace;
 use prt_command::Command;
 use prt_diff::commands_text;
 use prt_feed::number_of;
+use prt_machine::{LocalNet, Socket};
 use prt_program::Refusal;
 use prt_session::write_accepted;
 use std::alloc::{AllocError, Global};

@@ -13,13 +13,12 @@ ghost use Rattle.prt_version.specs.State.{State};
 use crate::asking::{REFUSED, none_message, report_none, write_made};
 use crate::importing::{Fenced, read_fenced};
 use crate::left::or_left;
-use crate::local::LocalNet;
 use crate::remote::{is_there, open_feed};
-use crate::telling::tell;
 use prt_args::{DONE, FAULT, FollowArgs, ServerPlace, WaitArgs};
 use prt_ask::{Answered, FollowEnd, Mirror, follow};
 use prt_feed::OpeningError;
-use prt_program::{ReadFiles, cause_message};
+use prt_machine::{LocalNet, Streams, tell};
+use prt_program::cause_message;
 use std::alloc::Global;
 use std::io::{BufReader, Read, Write};
 use std::rt::Clock;
@@ -105,22 +104,22 @@ fn follow_on<R: Read + Drop, W: Write, E: Write>(
 ///
 /// With `--once` it ends after the first lines, with the status of `diff`. Otherwise it ends with 3: if the feed ends, if a
 /// change has no lines, and if the lines can't be written. No database is touched.
-pub(crate) fn follow_server<F: ReadFiles, N: LocalNet, R: Read, W: Write, E: Write>(
-    files: &F,
+pub(crate) fn follow_server<H: Streams, N: LocalNet>(
+    files: &H::Files,
     rt: &N,
     alloc: Global,
     following: &FollowArgs<'_>,
-    input: &mut R,
-    output: &mut W,
-    errors: &mut E,
+    input: &mut H::Input,
+    output: &mut H::Output,
+    errors: &mut H::Errors,
 ) -> u8
     ensures status { (result ≡ DONE) ⊎ ((result ≡ REFUSED) ⊎ (result ≡ FAULT)) }
-    ensures whole { result ≡ DONE → HasFollowed (sources_of F.opens F.Opened.remaining files.now N.reaches N.Stream.remaining rt.now (R.remaining input.old)) (W.contents output.old) (W.contents output.new) (path_of following.now.file) following.now.server following.now.reach }
-    ensures at_most { HasFollowedAtMost (sources_of F.opens F.Opened.remaining files.now N.reaches N.Stream.remaining rt.now (R.remaining input.old)) (W.contents output.old) (W.contents output.new) (path_of following.now.file) following.now.server following.now.reach }
+    ensures whole { result ≡ DONE → HasFollowed (sources_of H.Files.opens H.Files.Opened.remaining files.now N.reaches N.Stream.remaining rt.now (H.Input.remaining input.old)) (H.Output.contents output.old) (H.Output.contents output.new) (path_of following.now.file) following.now.server following.now.reach }
+    ensures at_most { HasFollowedAtMost (sources_of H.Files.opens H.Files.Opened.remaining files.now N.reaches N.Stream.remaining rt.now (H.Input.remaining input.old)) (H.Output.contents output.old) (H.Output.contents output.new) (path_of following.now.file) following.now.server following.now.reach }
 {
     let place = &following.server;
     let (file, reach) = (following.file, &following.reach);
-    let listing = match read_fenced(files, alloc, file, reach, input, output, errors) {
+    let listing = match read_fenced::<H>(files, alloc, file, reach, input, output, errors) {
         Ok(listing) => listing,
         Err(status) => return status,
     };

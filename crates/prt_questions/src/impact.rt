@@ -9,24 +9,19 @@ ghost use Rattle.prt_questions.specs.Asking.{IsCutOff};
 ghost use Rattle.prt_questions.specs.Sources.{Gives, IsFileOf, IsRead, after, path_of, rest_by, sources_of};
 
 use crate::asking::{REFUSED, write_text};
-use crate::database_opener::DatabaseOpener;
-use crate::databases::DatabaseFiles;
 use crate::left::{or_left, tell_left};
-use crate::local::LocalNet;
 use crate::reading::{read_whole, report_no_memory};
 use crate::tables::{Tables, tables_at};
-use crate::telling::tell;
 use prt_args::{DONE, Exactness, FAULT, Form, ImpactArgs};
 use prt_impact::{Group, impact, impact_json, impact_text};
 use prt_import::accept_over;
+use prt_machine::{DatabaseFiles, Host, Streams, tell};
 use prt_partition::{MOST_BOXES, Sameness};
-use prt_program::{ReadFiles, Refusal};
+use prt_program::Refusal;
 use prt_refusals::OnRefusal;
 use prt_version::Version;
-use sqlite::{Alter, Connection};
 use std::alloc::Global;
-use std::io::{Read, Write};
-use std::sync::Wait;
+use std::io::Write;
 
 /// Chooses which verdicts count as the same.
 fn sameness_of(exactness: Exactness) -> Sameness
@@ -113,22 +108,22 @@ fn is_stopped(left: u8, on_refusal: OnRefusal) -> bool
 
 /// Executes a script over tables, reports its refused lines, and writes which packets go another way after it. If a refused
 /// line stops that, nothing is written.
-fn rehearse_over<F: ReadFiles, R: Read, W: Write, E: Write>(
-    files: &F,
+fn rehearse_over<H: Streams>(
+    files: &H::Files,
     alloc: Global,
     tables: &Tables,
     rehearsing: &ImpactArgs<'_>,
-    input: &mut R,
-    output: &mut W,
-    errors: &mut E,
+    input: &mut H::Input,
+    output: &mut H::Output,
+    errors: &mut H::Errors,
 ) -> u8
     requires { (tables.now.left ≡ DONE) ⊎ (tables.now.left ≡ REFUSED) }
     ensures status { (result ≡ DONE) ⊎ ((result ≡ REFUSED) ⊎ (result ≡ FAULT)) }
-    ensures found { (result ≡ DONE) ⊎ (result ≡ REFUSED) → IsRehearsed (IsRead (IsFileOf F.opens F.Opened.remaining files.now) (R.remaining input.old) (path_of rehearsing.now.file)) (W.contents output.old) (W.contents output.new) rehearsing.now result tables.now.version }
-    ensures at_most { IsRehearsedAtMost (IsRead (IsFileOf F.opens F.Opened.remaining files.now) (R.remaining input.old) (path_of rehearsing.now.file)) (W.contents output.old) (W.contents output.new) rehearsing.now tables.now.version }
+    ensures found { (result ≡ DONE) ⊎ (result ≡ REFUSED) → IsRehearsed (IsRead (IsFileOf H.Files.opens H.Files.Opened.remaining files.now) (H.Input.remaining input.old) (path_of rehearsing.now.file)) (H.Output.contents output.old) (H.Output.contents output.new) rehearsing.now result tables.now.version }
+    ensures at_most { IsRehearsedAtMost (IsRead (IsFileOf H.Files.opens H.Files.Opened.remaining files.now) (H.Input.remaining input.old) (path_of rehearsing.now.file)) (H.Output.contents output.old) (H.Output.contents output.new) rehearsing.now tables.now.version }
     ensures left { result ≡ DONE → tables.now.left ≡ DONE }
 {
-    let script = match read_whole(files, alloc, rehearsing.file, input, output, errors) {
+    let script = match read_whole::<H, _>(files, alloc, rehearsing.file, input, output, errors) {
         Ok(script) => script,
         Err(status) => return status,
     };
@@ -149,30 +144,22 @@ fn rehearse_over<F: ReadFiles, R: Read, W: Write, E: Write>(
 /// The status is 0 if none does, and 1 if any does or a line is refused, which standard error names. After a refused line
 /// nothing is compared, unless the words say to go on. The status is 3 as of `ask`, and if the rules divide packets into
 /// too many kinds. No rule and no route changes.
-pub(crate) fn rehearse<
-    S: Alter + Drop,
-    M: DatabaseOpener<Connection<S>> + Drop,
-    F: ReadFiles,
-    N: LocalNet + Wait + Copy + Drop,
-    R: Read,
-    W: Write,
-    E: Write,
->(
-    databases: &mut DatabaseFiles<'_, S, M, F, N>,
+pub(crate) fn rehearse<H: Host>(
+    databases: &mut DatabaseFiles<'_, H>,
     alloc: Global,
     rehearsing: &ImpactArgs<'_>,
-    input: &mut R,
-    output: &mut W,
-    errors: &mut E,
+    input: &mut H::Input,
+    output: &mut H::Output,
+    errors: &mut H::Errors,
 ) -> u8
     ensures status { (result ≡ DONE) ⊎ ((result ≡ REFUSED) ⊎ (result ≡ FAULT)) }
-    ensures found { (result ≡ DONE) ⊎ (result ≡ REFUSED) → IsFoundOf S.Store M.opens M.refuses M.closes (sources_of F.opens F.Opened.remaining databases.old.files.now N.reaches N.Stream.remaining databases.old.rt (R.remaining input.old)) databases.old.machine databases.new.machine rehearsing.now.source result (IsRehearsed (Gives (after (rest_by rehearsing.now.source) (sources_of F.opens F.Opened.remaining databases.old.files.now N.reaches N.Stream.remaining databases.old.rt (R.remaining input.old))) (path_of rehearsing.now.file)) (W.contents output.old) (W.contents output.new) rehearsing.now result) }
-    ensures at_most { IsFoundAtMost S.Store M.opens M.refuses M.closes (sources_of F.opens F.Opened.remaining databases.old.files.now N.reaches N.Stream.remaining databases.old.rt (R.remaining input.old)) databases.old.machine databases.new.machine (W.contents output.old) (W.contents output.new) rehearsing.now.source (IsRehearsedAtMost (Gives (after (rest_by rehearsing.now.source) (sources_of F.opens F.Opened.remaining databases.old.files.now N.reaches N.Stream.remaining databases.old.rt (R.remaining input.old))) (path_of rehearsing.now.file)) (W.contents output.old) (W.contents output.new) rehearsing.now) }
+    ensures found { (result ≡ DONE) ⊎ (result ≡ REFUSED) → IsFoundOf H.Store.Store H.Opener.DatabaseOpener (sources_of H.Files.opens H.Files.Opened.remaining databases.old.files.now H.Net.reaches H.Net.Stream.remaining databases.old.rt (H.Input.remaining input.old)) databases.old.machine databases.new.machine rehearsing.now.source result (IsRehearsed (Gives (after (rest_by rehearsing.now.source) (sources_of H.Files.opens H.Files.Opened.remaining databases.old.files.now H.Net.reaches H.Net.Stream.remaining databases.old.rt (H.Input.remaining input.old))) (path_of rehearsing.now.file)) (H.Output.contents output.old) (H.Output.contents output.new) rehearsing.now result) }
+    ensures at_most { IsFoundAtMost H.Store.Store H.Opener.DatabaseOpener (sources_of H.Files.opens H.Files.Opened.remaining databases.old.files.now H.Net.reaches H.Net.Stream.remaining databases.old.rt (H.Input.remaining input.old)) databases.old.machine databases.new.machine (H.Output.contents output.old) (H.Output.contents output.new) rehearsing.now.source (IsRehearsedAtMost (Gives (after (rest_by rehearsing.now.source) (sources_of H.Files.opens H.Files.Opened.remaining databases.old.files.now H.Net.reaches H.Net.Stream.remaining databases.old.rt (H.Input.remaining input.old))) (path_of rehearsing.now.file)) (H.Output.contents output.old) (H.Output.contents output.new) rehearsing.now) }
 {
     let (files, source) = (databases.files, &rehearsing.source);
     let tables = match tables_at(databases, alloc, source, input, output, errors) {
         Ok(tables) => tables,
         Err(status) => return status,
     };
-    rehearse_over(files, alloc, &tables, rehearsing, input, output, errors)
+    rehearse_over::<H>(files, alloc, &tables, rehearsing, input, output, errors)
 }

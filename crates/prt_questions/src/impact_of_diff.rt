@@ -6,23 +6,18 @@ ghost use Rattle.prt_questions.specs.Asking.{IsAskedOf, IsCutOff, IsWholeChange,
 ghost use Rattle.prt_questions.specs.Sources.{sources_of};
 
 use crate::asking::{REFUSED, report_none, write_made};
-use crate::database_opener::DatabaseOpener;
-use crate::databases::DatabaseFiles;
 use crate::impact::report_undivided;
-use crate::local::LocalNet;
-use crate::reading::report_no_memory;
 use crate::tables::tables_at;
 use prt_args::{DONE, FAULT, Source};
 use prt_ask::{Answered, Comparison, Question, answer};
 use prt_impact::{Group, impact, push_group_line};
 use prt_import::accept_over;
+use prt_machine::{DatabaseFiles, Host};
 use prt_partition::Sameness;
-use prt_program::{ReadFiles, Refusal};
+use prt_program::Refusal;
 use prt_version::Version;
-use sqlite::{Alter, Connection};
 use std::alloc::{AllocError, Global};
-use std::io::{Read, Write};
-use std::sync::Wait;
+use std::io::Write;
 
 /// Appends a comment with the line of a group.
 fn push_comment(out: &mut Vec<u8>, group: &Group) -> Result<(), AllocError>
@@ -95,27 +90,19 @@ fn write_difference<W: Write, E: Write>(
 
 /// Writes the lines that bring what was found to the tables at a source, after the packets that they send another way. It
 /// returns the exit status.
-pub(crate) fn diff_with_impact<
-    S: Alter + Drop,
-    M: DatabaseOpener<Connection<S>> + Drop,
-    F: ReadFiles,
-    N: LocalNet + Wait + Copy + Drop,
-    R: Read,
-    W: Write,
-    E: Write,
->(
-    databases: &mut DatabaseFiles<'_, S, M, F, N>,
+pub(crate) fn diff_with_impact<H: Host>(
+    databases: &mut DatabaseFiles<'_, H>,
     alloc: Global,
     source: &Source<'_>,
     comparison: &Comparison<'_>,
-    input: &mut R,
-    output: &mut W,
-    errors: &mut E,
+    input: &mut H::Input,
+    output: &mut H::Output,
+    errors: &mut H::Errors,
 ) -> u8
     ensures status { (result ≡ DONE) ⊎ ((result ≡ REFUSED) ⊎ (result ≡ FAULT)) }
-    ensures whole { result ≡ DONE → IsAskedOf S.Store M.opens M.refuses M.closes (sources_of F.opens F.Opened.remaining databases.old.files.now N.reaches N.Stream.remaining databases.old.rt (R.remaining input.old)) databases.old.machine databases.new.machine source.now (λ state. (text : List ℕ) × IsWithImpact comparison.now.fence.now comparison.now.found.now state text × Appends (W.contents output.old) (W.contents output.new) text × IsWholeChange comparison.now.fence.now comparison.now.found.now state) }
-    ensures at_most { ((W.contents output.new ≡ W.contents output.old) × IsNotRead S.Store M.opens M.refuses M.closes (sources_of F.opens F.Opened.remaining databases.old.files.now N.reaches N.Stream.remaining databases.old.rt (R.remaining input.old)) databases.old.machine databases.new.machine source.now)
-        ⊎ IsAskedOf S.Store M.opens M.refuses M.closes (sources_of F.opens F.Opened.remaining databases.old.files.now N.reaches N.Stream.remaining databases.old.rt (R.remaining input.old)) databases.old.machine databases.new.machine source.now (λ state. (text : List ℕ) × IsWithImpact comparison.now.fence.now comparison.now.found.now state text × IsCutOff text (W.contents output.old) (W.contents output.new)) }
+    ensures whole { result ≡ DONE → IsAskedOf H.Store.Store H.Opener.DatabaseOpener (sources_of H.Files.opens H.Files.Opened.remaining databases.old.files.now H.Net.reaches H.Net.Stream.remaining databases.old.rt (H.Input.remaining input.old)) databases.old.machine databases.new.machine source.now (λ state. (text : List ℕ) × IsWithImpact comparison.now.fence.now comparison.now.found.now state text × Appends (H.Output.contents output.old) (H.Output.contents output.new) text × IsWholeChange comparison.now.fence.now comparison.now.found.now state) }
+    ensures at_most { ((H.Output.contents output.new ≡ H.Output.contents output.old) × IsNotRead H.Store.Store H.Opener.DatabaseOpener (sources_of H.Files.opens H.Files.Opened.remaining databases.old.files.now H.Net.reaches H.Net.Stream.remaining databases.old.rt (H.Input.remaining input.old)) databases.old.machine databases.new.machine source.now)
+        ⊎ IsAskedOf H.Store.Store H.Opener.DatabaseOpener (sources_of H.Files.opens H.Files.Opened.remaining databases.old.files.now H.Net.reaches H.Net.Stream.remaining databases.old.rt (H.Input.remaining input.old)) databases.old.machine databases.new.machine source.now (λ state. (text : List ℕ) × IsWithImpact comparison.now.fence.now comparison.now.found.now state text × IsCutOff text (H.Output.contents output.old) (H.Output.contents output.new)) }
 {
     let tables = match tables_at(databases, alloc, source, input, output, errors) {
         Ok(tables) => tables,

@@ -12,13 +12,10 @@ ghost use Rattle.prt_args.specs.declared.asking.Shown.TheVariants as shows;
 
 use crate::applying::{PLAIN, apply_to_database};
 use crate::asking::{REFUSED, ask_source, write_text};
-use crate::database_opener::DatabaseOpener;
-use crate::databases::DatabaseFiles;
 use crate::fencing::fence_beside;
 use crate::impact_of_diff::diff_with_impact;
 use crate::inquiry::Inquiry;
 use crate::left::{is_kernels, or_left, tell_left};
-use crate::local::LocalNet;
 use crate::reading::{host_names, read_whole, report_no_memory, report_unread};
 use prt_args::{DONE, DiffArgs, FAULT, Form, ImportArgs, Labels, Reach, Shown, Source};
 use prt_ask::{Comparison, Question};
@@ -27,12 +24,11 @@ use prt_import::{
     Accepted, Imported, Names, OmittedLine, accept, check_listing, import, next_line,
 };
 use prt_ip_json::{ListingError, is_json, listing_of};
+use prt_machine::{DatabaseFiles, Host, Streams};
 use prt_program::{ReadFiles, Refusal};
 use prt_version::Version;
-use sqlite::{Alter, Connection};
 use std::alloc::Global;
-use std::io::{Read, Write};
-use std::sync::Wait;
+use std::io::Write;
 
 /// The escape character, which no line of `ip` has unless it prints colours.
 const ESCAPE: u8 = 27;
@@ -137,22 +133,22 @@ fn is_any_known(left: &[OmittedLine], accepted: &Accepted) -> bool
 /// # Errors
 ///
 /// The exit status, if it can't be read, isn't a whole listing of IPv4, no line of it is known, or memory is refused.
-pub(crate) fn read_listing<F: ReadFiles, R: Read, W: Write, E: Write>(
-    files: &F,
+pub(crate) fn read_listing<H: Streams>(
+    files: &H::Files,
     alloc: Global,
     file: Option<&str>,
-    input: &mut R,
-    output: &mut W,
-    errors: &mut E,
+    input: &mut H::Input,
+    output: &mut H::Output,
+    errors: &mut H::Errors,
 ) -> Result<(Accepted, u8, Vec<OmittedLine>), u8>
-    ensures made { IfOk result (λ read. IsListing (IsRead (IsFileOf F.opens F.Opened.remaining files.now) (R.remaining input.old) (path_of file.entry)) read.2.items read.0) }
+    ensures made { IfOk result (λ read. IsListing (IsRead (IsFileOf H.Files.opens H.Files.Opened.remaining files.now) (H.Input.remaining input.old) (path_of file.entry)) read.2.items read.0) }
     ensures status { IfOk result (λ read. (read.1 ≡ DONE) ⊎ (read.1 ≡ REFUSED)) }
     ensures kept { IfOk result (λ read. read.1 ≡ DONE → AreKept read.2.items read.0) }
-    ensures left { OnOk result (HasLeft (rest_after (path_of file.entry)) (R.remaining input.old) (R.remaining input.new)) }
+    ensures left { OnOk result (HasLeft (rest_after (path_of file.entry)) (H.Input.remaining input.old) (H.Input.remaining input.new)) }
     ensures fault { IfErr result (λ status. status ≡ FAULT) }
-    ensures unwritten { W.contents output.new ≡ W.contents output.old }
+    ensures unwritten { H.Output.contents output.new ≡ H.Output.contents output.old }
 {
-    let text = read_whole(files, alloc, file, input, output, errors)?;
+    let text = read_whole::<H, _>(files, alloc, file, input, output, errors)?;
     let lines = match lines_of(alloc, text) {
         Ok(lines) => lines,
         Err(ListingError::NoMemory) => return Err(report_no_memory(output, errors)),
@@ -188,23 +184,23 @@ pub(crate) struct Fenced {
 /// # Errors
 ///
 /// The exit status, as of `read_listing`.
-pub(crate) fn read_fenced<F: ReadFiles, R: Read, W: Write, E: Write>(
-    files: &F,
+pub(crate) fn read_fenced<H: Streams>(
+    files: &H::Files,
     alloc: Global,
     file: Option<&str>,
     reach: &Reach,
-    input: &mut R,
-    output: &mut W,
-    errors: &mut E,
+    input: &mut H::Input,
+    output: &mut H::Output,
+    errors: &mut H::Errors,
 ) -> Result<Fenced, u8>
-    ensures made { IfOk result (λ listing. IsFenced (IsRead (IsFileOf F.opens F.Opened.remaining files.now) (R.remaining input.old) (path_of file.entry)) reach.now listing.found listing.fence) }
+    ensures made { IfOk result (λ listing. IsFenced (IsRead (IsFileOf H.Files.opens H.Files.Opened.remaining files.now) (H.Input.remaining input.old) (path_of file.entry)) reach.now listing.found listing.fence) }
     ensures status { IfOk result (λ listing. (listing.left ≡ DONE) ⊎ (listing.left ≡ REFUSED)) }
-    ensures kept { IfOk result (λ listing. listing.left ≡ DONE → IsWholeFenced (IsRead (IsFileOf F.opens F.Opened.remaining files.now) (R.remaining input.old) (path_of file.entry)) reach.now listing.found listing.fence) }
-    ensures left { OnOk result (HasLeft (rest_after (path_of file.entry)) (R.remaining input.old) (R.remaining input.new)) }
+    ensures kept { IfOk result (λ listing. listing.left ≡ DONE → IsWholeFenced (IsRead (IsFileOf H.Files.opens H.Files.Opened.remaining files.now) (H.Input.remaining input.old) (path_of file.entry)) reach.now listing.found listing.fence) }
+    ensures left { OnOk result (HasLeft (rest_after (path_of file.entry)) (H.Input.remaining input.old) (H.Input.remaining input.new)) }
     ensures fault { IfErr result (λ status. status ≡ FAULT) }
-    ensures unwritten { W.contents output.new ≡ W.contents output.old }
+    ensures unwritten { H.Output.contents output.new ≡ H.Output.contents output.old }
 {
-    let read = read_listing(files, alloc, file, input, output, errors);
+    let read = read_listing::<H>(files, alloc, file, input, output, errors);
     let (accepted, left, unread) = match read {
         Ok(read) => read,
         Err(status) => return Err(status),
@@ -217,24 +213,17 @@ pub(crate) fn read_fenced<F: ReadFiles, R: Read, W: Write, E: Write>(
 }
 
 /// Prints a script, or makes the tables of the database at a path those that it makes. Returns the exit status.
-fn print_or_make<
-    S: Alter + Drop,
-    M: DatabaseOpener<Connection<S>> + Drop,
-    F,
-    N: Wait + Copy + Drop,
-    W: Write,
-    E: Write,
->(
-    databases: &mut DatabaseFiles<'_, S, M, F, N>,
+fn print_or_make<H: Host>(
+    databases: &mut DatabaseFiles<'_, H>,
     alloc: Global,
     database: Option<&str>,
     accepted: Accepted,
-    output: &mut W,
-    errors: &mut E,
+    output: &mut H::Output,
+    errors: &mut H::Errors,
 ) -> u8
     ensures status { (result ≡ DONE) ⊎ (result ≡ FAULT) }
-    ensures whole { result ≡ DONE → IsImported S.Store M.opens M.refuses M.closes databases.old.machine databases.new.machine (W.contents output.old) (W.contents output.new) (path_of database.entry) accepted }
-    ensures at_most { IsImportedAtMost S.Store M.opens M.refuses M.closes databases.old.machine databases.new.machine (W.contents output.old) (W.contents output.new) (path_of database.entry) accepted }
+    ensures whole { result ≡ DONE → IsImported H.Store.Store H.Opener.DatabaseOpener databases.old.machine databases.new.machine (H.Output.contents output.old) (H.Output.contents output.new) (path_of database.entry) accepted }
+    ensures at_most { IsImportedAtMost H.Store.Store H.Opener.DatabaseOpener databases.old.machine databases.new.machine (H.Output.contents output.old) (H.Output.contents output.new) (path_of database.entry) accepted }
 {
     match database {
         Some(path) => {
@@ -251,27 +240,19 @@ fn print_or_make<
 /// The status is 1 if a line can't be kept, which standard error names, unless the kernel makes it itself. It is 3 if the
 /// listing can't be read, for want of memory, and for a fault of opening or of the store. It is also 3 if the script or the
 /// changes can't be written.
-pub(crate) fn import_listing<
-    S: Alter + Drop,
-    M: DatabaseOpener<Connection<S>> + Drop,
-    F: ReadFiles,
-    N: LocalNet + Wait + Copy + Drop,
-    R: Read,
-    W: Write,
-    E: Write,
->(
-    databases: &mut DatabaseFiles<'_, S, M, F, N>,
+pub(crate) fn import_listing<H: Host>(
+    databases: &mut DatabaseFiles<'_, H>,
     alloc: Global,
     importing: &ImportArgs<'_>,
-    input: &mut R,
-    output: &mut W,
-    errors: &mut E,
+    input: &mut H::Input,
+    output: &mut H::Output,
+    errors: &mut H::Errors,
 ) -> u8
     ensures status { (result ≡ DONE) ⊎ ((result ≡ REFUSED) ⊎ (result ≡ FAULT)) }
-    ensures whole { result ≡ DONE → HasImported S.Store M.opens M.refuses M.closes (sources_of F.opens F.Opened.remaining databases.old.files.now N.reaches N.Stream.remaining databases.old.rt (R.remaining input.old)) databases.old.machine databases.new.machine (W.contents output.old) (W.contents output.new) (path_of importing.now.file) (path_of importing.now.database) }
-    ensures at_most { HasImportedAtMost S.Store M.opens M.refuses M.closes (sources_of F.opens F.Opened.remaining databases.old.files.now N.reaches N.Stream.remaining databases.old.rt (R.remaining input.old)) databases.old.machine databases.new.machine (W.contents output.old) (W.contents output.new) (path_of importing.now.file) (path_of importing.now.database) }
+    ensures whole { result ≡ DONE → HasImported H.Store.Store H.Opener.DatabaseOpener (sources_of H.Files.opens H.Files.Opened.remaining databases.old.files.now H.Net.reaches H.Net.Stream.remaining databases.old.rt (H.Input.remaining input.old)) databases.old.machine databases.new.machine (H.Output.contents output.old) (H.Output.contents output.new) (path_of importing.now.file) (path_of importing.now.database) }
+    ensures at_most { HasImportedAtMost H.Store.Store H.Opener.DatabaseOpener (sources_of H.Files.opens H.Files.Opened.remaining databases.old.files.now H.Net.reaches H.Net.Stream.remaining databases.old.rt (H.Input.remaining input.old)) databases.old.machine databases.new.machine (H.Output.contents output.old) (H.Output.contents output.new) (path_of importing.now.file) (path_of importing.now.database) }
 {
-    let read = read_listing(
+    let read = read_listing::<H>(
         databases.files,
         alloc,
         importing.file,
@@ -295,24 +276,17 @@ pub(crate) fn import_listing<
 }
 
 /// Finds what differs at a source, prints nothing of it, and returns the exit status: 1 if anything differs.
-fn compare<
-    S: Alter + Drop,
-    M: DatabaseOpener<Connection<S>> + Drop,
-    F: ReadFiles,
-    N: LocalNet + Wait + Copy + Drop,
-    R: Read,
-    E: Write,
->(
-    databases: &mut DatabaseFiles<'_, S, M, F, N>,
+fn compare<H: Host>(
+    databases: &mut DatabaseFiles<'_, H>,
     alloc: Global,
     source: &Source<'_>,
     inquiry: &Inquiry<'_>,
-    input: &mut R,
-    errors: &mut E,
+    input: &mut H::Input,
+    errors: &mut H::Errors,
 ) -> u8
     ensures status { (result ≡ DONE) ⊎ ((result ≡ REFUSED) ⊎ (result ≡ FAULT)) }
-    ensures same { result ≡ DONE → IsAskedOf S.Store M.opens M.refuses M.closes (sources_of F.opens F.Opened.remaining databases.old.files.now N.reaches N.Stream.remaining databases.old.rt (R.remaining input.old)) databases.old.machine databases.new.machine source.now (λ state. (said inquiry.now state ≡ []) × IsWholeAnswer inquiry.now.question state) }
-    ensures part { IsNotAsked S.Store M.opens M.refuses M.closes databases.old.machine databases.new.machine source.now ⊎ IsAskedOf S.Store M.opens M.refuses M.closes (sources_of F.opens F.Opened.remaining databases.old.files.now N.reaches N.Stream.remaining databases.old.rt (R.remaining input.old)) databases.old.machine databases.new.machine source.now (λ state. Unit {0}) }
+    ensures same { result ≡ DONE → IsAskedOf H.Store.Store H.Opener.DatabaseOpener (sources_of H.Files.opens H.Files.Opened.remaining databases.old.files.now H.Net.reaches H.Net.Stream.remaining databases.old.rt (H.Input.remaining input.old)) databases.old.machine databases.new.machine source.now (λ state. (said inquiry.now state ≡ []) × IsWholeAnswer inquiry.now.question state) }
+    ensures part { IsNotAsked H.Store.Store H.Opener.DatabaseOpener databases.old.machine databases.new.machine source.now ⊎ IsAskedOf H.Store.Store H.Opener.DatabaseOpener (sources_of H.Files.opens H.Files.Opened.remaining databases.old.files.now H.Net.reaches H.Net.Stream.remaining databases.old.rt (H.Input.remaining input.old)) databases.old.machine databases.new.machine source.now (λ state. Unit {0}) }
 {
     let mut lines: Vec<u8> = Vec::new(alloc);
     let asked = ask_source(databases, alloc, source, inquiry, input, &mut lines, errors);
@@ -328,26 +302,18 @@ fn compare<
 
 /// Shows how what was found differs from the tables at a source: the lines, or before them which packets they send another way,
 /// or whether anything differs at all. It returns the exit status.
-fn show_difference<
-    S: Alter + Drop,
-    M: DatabaseOpener<Connection<S>> + Drop,
-    F: ReadFiles,
-    N: LocalNet + Wait + Copy + Drop,
-    R: Read,
-    W: Write,
-    E: Write,
->(
-    databases: &mut DatabaseFiles<'_, S, M, F, N>,
+fn show_difference<H: Host>(
+    databases: &mut DatabaseFiles<'_, H>,
     alloc: Global,
     diffing: &DiffArgs<'_>,
     comparison: &Comparison<'_>,
-    input: &mut R,
-    output: &mut W,
-    errors: &mut E,
+    input: &mut H::Input,
+    output: &mut H::Output,
+    errors: &mut H::Errors,
 ) -> u8
     ensures status { (result ≡ DONE) ⊎ ((result ≡ REFUSED) ⊎ (result ≡ FAULT)) }
-    ensures whole { result ≡ DONE → IsShown S.Store M.opens M.refuses M.closes (sources_of F.opens F.Opened.remaining databases.old.files.now N.reaches N.Stream.remaining databases.old.rt (R.remaining input.old)) databases.old.machine databases.new.machine (W.contents output.old) (W.contents output.new) comparison.now.fence.now comparison.now.found.now diffing.now.shown diffing.now.source }
-    ensures at_most { IsShownAtMost S.Store M.opens M.refuses M.closes (sources_of F.opens F.Opened.remaining databases.old.files.now N.reaches N.Stream.remaining databases.old.rt (R.remaining input.old)) databases.old.machine databases.new.machine (W.contents output.old) (W.contents output.new) comparison.now.fence.now comparison.now.found.now diffing.now.shown diffing.now.source }
+    ensures whole { result ≡ DONE → IsShown H.Store.Store H.Opener.DatabaseOpener (sources_of H.Files.opens H.Files.Opened.remaining databases.old.files.now H.Net.reaches H.Net.Stream.remaining databases.old.rt (H.Input.remaining input.old)) databases.old.machine databases.new.machine (H.Output.contents output.old) (H.Output.contents output.new) comparison.now.fence.now comparison.now.found.now diffing.now.shown diffing.now.source }
+    ensures at_most { IsShownAtMost H.Store.Store H.Opener.DatabaseOpener (sources_of H.Files.opens H.Files.Opened.remaining databases.old.files.now H.Net.reaches H.Net.Stream.remaining databases.old.rt (H.Input.remaining input.old)) databases.old.machine databases.new.machine (H.Output.contents output.old) (H.Output.contents output.new) comparison.now.fence.now comparison.now.found.now diffing.now.shown diffing.now.source }
 {
     let inquiry = Inquiry {
         question: Question::Diff(*comparison),
@@ -371,28 +337,20 @@ fn show_difference<
 /// What is in the place of a line that can't be kept is left alone. The status is 1 if anything differs of which the status
 /// alone is shown, and if a rule is left that should go. It is also 1 if a line can't be kept, as of `import_listing`. It is
 /// 3 as of `ask` and `import_listing`.
-pub(crate) fn diff<
-    S: Alter + Drop,
-    M: DatabaseOpener<Connection<S>> + Drop,
-    F: ReadFiles,
-    N: LocalNet + Wait + Copy + Drop,
-    R: Read,
-    W: Write,
-    E: Write,
->(
-    databases: &mut DatabaseFiles<'_, S, M, F, N>,
+pub(crate) fn diff<H: Host>(
+    databases: &mut DatabaseFiles<'_, H>,
     alloc: Global,
     diffing: &DiffArgs<'_>,
-    input: &mut R,
-    output: &mut W,
-    errors: &mut E,
+    input: &mut H::Input,
+    output: &mut H::Output,
+    errors: &mut H::Errors,
 ) -> u8
     ensures status { (result ≡ DONE) ⊎ ((result ≡ REFUSED) ⊎ (result ≡ FAULT)) }
-    ensures whole { result ≡ DONE → HasCompared S.Store M.opens M.refuses M.closes (sources_of F.opens F.Opened.remaining databases.old.files.now N.reaches N.Stream.remaining databases.old.rt (R.remaining input.old)) databases.old.machine databases.new.machine (W.contents output.old) (W.contents output.new) (path_of diffing.now.file) diffing.now.reach diffing.now.shown diffing.now.source }
-    ensures at_most { HasComparedAtMost S.Store M.opens M.refuses M.closes (sources_of F.opens F.Opened.remaining databases.old.files.now N.reaches N.Stream.remaining databases.old.rt (R.remaining input.old)) databases.old.machine databases.new.machine (W.contents output.old) (W.contents output.new) (path_of diffing.now.file) diffing.now.reach diffing.now.shown diffing.now.source }
+    ensures whole { result ≡ DONE → HasCompared H.Store.Store H.Opener.DatabaseOpener (sources_of H.Files.opens H.Files.Opened.remaining databases.old.files.now H.Net.reaches H.Net.Stream.remaining databases.old.rt (H.Input.remaining input.old)) databases.old.machine databases.new.machine (H.Output.contents output.old) (H.Output.contents output.new) (path_of diffing.now.file) diffing.now.reach diffing.now.shown diffing.now.source }
+    ensures at_most { HasComparedAtMost H.Store.Store H.Opener.DatabaseOpener (sources_of H.Files.opens H.Files.Opened.remaining databases.old.files.now H.Net.reaches H.Net.Stream.remaining databases.old.rt (H.Input.remaining input.old)) databases.old.machine databases.new.machine (H.Output.contents output.old) (H.Output.contents output.new) (path_of diffing.now.file) diffing.now.reach diffing.now.shown diffing.now.source }
 {
     let (files, file, reach) = (databases.files, diffing.file, &diffing.reach);
-    let listing = match read_fenced(files, alloc, file, reach, input, output, errors) {
+    let listing = match read_fenced::<H>(files, alloc, file, reach, input, output, errors) {
         Ok(listing) => listing,
         Err(status) => return status,
     };

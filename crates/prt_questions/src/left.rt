@@ -6,12 +6,12 @@ ghost use Rattle.prt_questions.specs.LeftOut.{AreKernels, is_kernels};
 
 use crate::asking::REFUSED;
 use crate::reading::is_newline;
-use crate::telling::tell;
 use prt_addr::Addr;
 use prt_args::DONE;
 use prt_ask::Question;
 use prt_command::Query;
 use prt_import::{OmittedLine, Reason, left_out};
+use prt_machine::tell;
 use std::alloc::{AllocError, Global};
 use std::io::Write;
 

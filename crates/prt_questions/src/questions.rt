@@ -1,57 +1,44 @@
 //! What is asked from outside a session.
 ghost use Rattle.std.specs.Prelude.{◌≡◌, ◌⊎◌};
-ghost use Rattle.prt_questions.specs.Done.{IsDone, IsDoneAtMost, IsFound, IsFoundClosed};
+ghost use Rattle.prt_questions.specs.Done.{IsDone, IsDoneAtMost, IsFound, IsFoundClosed, IsFoundUnreadable};
 ghost use Rattle.prt_questions.specs.Sources.{sources_of};
 
 use crate::applying::apply;
 use crate::asking::{REFUSED, ask};
 use crate::asserting::{UNREADABLE, assert_claims};
-use crate::database_opener::DatabaseOpener;
-use crate::databases::DatabaseFiles;
 use crate::following::{follow_server, wait_for};
 use crate::impact::rehearse;
 use crate::importing::{diff, import_listing};
-use crate::local::LocalNet;
 use crate::searching::search;
 use crate::status::{CLOSED, show_status};
 use prt_args::{Asked, DONE, FAULT};
-use prt_program::ReadFiles;
-use sqlite::{Alter, Connection};
+use prt_machine::{DatabaseFiles, Host};
 use std::alloc::Global;
-use std::io::{IsTerminal, Read, Write};
-use std::rt::Clock;
 use std::sync::Wait;
 
 /// Answers what is asked, and returns the exit status: that of `ask`, `diff`, `follow_server`, `wait_for`, `import_listing`,
 /// `rehearse`, `assert_claims`, `search`, `apply` or `show_status`.
-pub fn answer_question<
-    S: Alter + Drop,
-    M: DatabaseOpener<Connection<S>> + Drop,
-    F: ReadFiles,
-    N: LocalNet + Wait + Clock + Copy + Drop,
-    R: Read,
-    W: Write + IsTerminal,
-    E: Write,
->(
-    databases: &mut DatabaseFiles<'_, S, M, F, N>,
+pub fn answer_question<H: Host>(
+    databases: &mut DatabaseFiles<'_, H>,
     alloc: Global,
     asked: &Asked<'_>,
-    input: &mut R,
-    output: &mut W,
-    errors: &mut E,
+    input: &mut H::Input,
+    output: &mut H::Output,
+    errors: &mut H::Errors,
 ) -> u8
     ensures status { (result ≡ DONE) ⊎ ((result ≡ REFUSED) ⊎ ((result ≡ UNREADABLE) ⊎ ((result ≡ CLOSED) ⊎ (result ≡ FAULT)))) }
-    ensures whole { result ≡ DONE → IsDone S.Store M.opens M.refuses M.closes (sources_of F.opens F.Opened.remaining databases.old.files.now N.reaches N.Stream.remaining databases.old.rt (R.remaining input.old)) databases.old.machine databases.new.machine (W.contents output.old) (W.contents output.new) asked.now }
-    ensures found { result ≡ REFUSED → IsFound S.Store M.opens M.refuses M.closes (sources_of F.opens F.Opened.remaining databases.old.files.now N.reaches N.Stream.remaining databases.old.rt (R.remaining input.old)) databases.old.machine databases.new.machine (W.contents output.old) (W.contents output.new) asked.now }
-    ensures closed { result ≡ CLOSED → IsFoundClosed S.Store M.opens M.refuses M.closes (sources_of F.opens F.Opened.remaining databases.old.files.now N.reaches N.Stream.remaining databases.old.rt (R.remaining input.old)) databases.old.machine databases.new.machine (W.contents output.old) (W.contents output.new) asked.now }
-    ensures at_most { IsDoneAtMost S.Store M.opens M.refuses M.closes (sources_of F.opens F.Opened.remaining databases.old.files.now N.reaches N.Stream.remaining databases.old.rt (R.remaining input.old)) databases.old.machine databases.new.machine (W.contents output.old) (W.contents output.new) asked.now }
+    ensures whole { result ≡ DONE → IsDone H.Store.Store H.Opener.DatabaseOpener (sources_of H.Files.opens H.Files.Opened.remaining databases.old.files.now H.Net.reaches H.Net.Stream.remaining databases.old.rt (H.Input.remaining input.old)) databases.old.machine databases.new.machine (H.Output.contents output.old) (H.Output.contents output.new) asked.now }
+    ensures found { result ≡ REFUSED → IsFound H.Store.Store H.Opener.DatabaseOpener (sources_of H.Files.opens H.Files.Opened.remaining databases.old.files.now H.Net.reaches H.Net.Stream.remaining databases.old.rt (H.Input.remaining input.old)) databases.old.machine databases.new.machine (H.Output.contents output.old) (H.Output.contents output.new) asked.now }
+    ensures unreadable { result ≡ UNREADABLE → IsFoundUnreadable H.Store.Store H.Opener.DatabaseOpener (sources_of H.Files.opens H.Files.Opened.remaining databases.old.files.now H.Net.reaches H.Net.Stream.remaining databases.old.rt (H.Input.remaining input.old)) databases.old.machine databases.new.machine (H.Output.contents output.old) (H.Output.contents output.new) asked.now }
+    ensures closed { result ≡ CLOSED → IsFoundClosed H.Store.Store H.Opener.DatabaseOpener (sources_of H.Files.opens H.Files.Opened.remaining databases.old.files.now H.Net.reaches H.Net.Stream.remaining databases.old.rt (H.Input.remaining input.old)) databases.old.machine databases.new.machine (H.Output.contents output.old) (H.Output.contents output.new) asked.now }
+    ensures at_most { IsDoneAtMost H.Store.Store H.Opener.DatabaseOpener (sources_of H.Files.opens H.Files.Opened.remaining databases.old.files.now H.Net.reaches H.Net.Stream.remaining databases.old.rt (H.Input.remaining input.old)) databases.old.machine databases.new.machine (H.Output.contents output.old) (H.Output.contents output.new) asked.now }
 {
     match asked {
         Asked::Tables(asking) => ask(databases, alloc, asking, input, output, errors),
         Asked::Diff(diffing) => diff(databases, alloc, diffing, input, output, errors),
         Asked::Follow(following) => {
             let (files, rt) = (databases.files, databases.rt);
-            follow_server(files, &rt, alloc, following, input, output, errors)
+            follow_server::<H, _>(files, &rt, alloc, following, input, output, errors)
         }
         Asked::Wait(waiting) => wait_for(&databases.rt, alloc, waiting, errors),
         Asked::Import(importing) => {

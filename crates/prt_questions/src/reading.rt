@@ -2,9 +2,9 @@
 ghost use Rattle.std.specs.Prelude.{◌≡◌, ◌==◌, IfErr, IfOk, OnOk};
 ghost use Rattle.prt_questions.specs.Sources.{HasLeft, IsFileOf, IsRead, path_of, rest_after};
 
-use crate::telling::tell;
 use prt_args::{FAULT, Fault, Labels, STANDARD_INPUT, report};
 use prt_import::{HostNames, Names};
+use prt_machine::{Streams, tell};
 use prt_program::{ReadFiles, Refusal, cause_message};
 use std::alloc::{AllocError, Global};
 use std::fmt::Display;
@@ -98,16 +98,16 @@ pub(crate) fn report_unread<D: Display, W: Write, E: Write>(
 /// # Errors
 ///
 /// The exit status, if it can't be read; the cause is reported.
-pub(crate) fn read_whole<F: ReadFiles, R: Read, W: Write, E: Write>(
-    files: &F,
+pub(crate) fn read_whole<H: Streams, W: Write>(
+    files: &H::Files,
     alloc: Global,
     file: Option<&str>,
-    input: &mut R,
+    input: &mut H::Input,
     output: &mut W,
-    errors: &mut E,
+    errors: &mut H::Errors,
 ) -> Result<Vec<u8>, u8>
-    ensures read { IfOk result (λ text. IsRead (IsFileOf F.opens F.Opened.remaining files.now) (R.remaining input.old) (path_of file.entry) text.items) }
-    ensures left { OnOk result (HasLeft (rest_after (path_of file.entry)) (R.remaining input.old) (R.remaining input.new)) }
+    ensures read { IfOk result (λ text. IsRead (IsFileOf H.Files.opens H.Files.Opened.remaining files.now) (H.Input.remaining input.old) (path_of file.entry) text.items) }
+    ensures left { OnOk result (HasLeft (rest_after (path_of file.entry)) (H.Input.remaining input.old) (H.Input.remaining input.new)) }
     ensures fault { IfErr result (λ status. status ≡ FAULT) }
     ensures unwritten { W.contents output.new ≡ W.contents output.old }
 {

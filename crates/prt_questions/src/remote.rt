@@ -6,10 +6,10 @@ ghost use Rattle.prt_args.specs.declared.server_place.ServerPlace.TheVariants.{F
 ghost use Rattle.prt_questions.specs.Sources.{AreTold, IsHeard, IsReport};
 ghost use Rattle.prt_questions.specs.Told.{IsFeedBefore, IsInquiry, IsQueryLine, IsReached, IsToldBy, IsToldIn};
 
-use crate::local::{LocalNet, Socket};
 use crate::reading::last_line;
 use prt_args::ServerPlace;
 use prt_feed::{OpeningError, read_opening};
+use prt_machine::{LocalNet, Socket};
 use prt_program::Refusal;
 use prt_version::Version;
 use std::alloc::{AllocError, Global};

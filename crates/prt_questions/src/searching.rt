@@ -5,19 +5,15 @@ ghost use Rattle.prt_questions.specs.Analyses.{IsFoundAtMost, IsFoundOf, IsSearc
 ghost use Rattle.prt_questions.specs.Sources.{sources_of};
 
 use crate::asking::{REFUSED, write_text};
-use crate::database_opener::DatabaseOpener;
-use crate::databases::DatabaseFiles;
 use crate::impact::report_undivided;
-use crate::local::LocalNet;
 use crate::reading::report_no_memory;
 use crate::tables::{Tables, tables_at};
 use prt_args::{DONE, FAULT, Source};
-use prt_program::{ReadFiles, Refusal};
+use prt_machine::{DatabaseFiles, Host};
+use prt_program::Refusal;
 use prt_unused::{Unused, unused, unused_text};
-use sqlite::{Alter, Connection};
 use std::alloc::Global;
-use std::io::{Read, Write};
-use std::sync::Wait;
+use std::io::Write;
 
 /// Makes the text of unused rules and routes.
 fn text_of(alloc: Global, found: &Unused) -> Result<Vec<u8>, Refusal>
@@ -72,25 +68,17 @@ fn search_over<W: Write, E: Write>(
 ///
 /// The status is 0 if there are none, and 1 if there are any or a line of the script is refused. It is 3 as of `ask`, and if
 /// the rules divide packets into too many kinds. No rule and no route changes.
-pub(crate) fn search<
-    S: Alter + Drop,
-    M: DatabaseOpener<Connection<S>> + Drop,
-    F: ReadFiles,
-    N: LocalNet + Wait + Copy + Drop,
-    R: Read,
-    W: Write,
-    E: Write,
->(
-    databases: &mut DatabaseFiles<'_, S, M, F, N>,
+pub(crate) fn search<H: Host>(
+    databases: &mut DatabaseFiles<'_, H>,
     alloc: Global,
     source: &Source<'_>,
-    input: &mut R,
-    output: &mut W,
-    errors: &mut E,
+    input: &mut H::Input,
+    output: &mut H::Output,
+    errors: &mut H::Errors,
 ) -> u8
     ensures status { (result ≡ DONE) ⊎ ((result ≡ REFUSED) ⊎ (result ≡ FAULT)) }
-    ensures found { (result ≡ DONE) ⊎ (result ≡ REFUSED) → IsFoundOf S.Store M.opens M.refuses M.closes (sources_of F.opens F.Opened.remaining databases.old.files.now N.reaches N.Stream.remaining databases.old.rt (R.remaining input.old)) databases.old.machine databases.new.machine source.now result (IsSearched (W.contents output.old) (W.contents output.new) result) }
-    ensures at_most { IsFoundAtMost S.Store M.opens M.refuses M.closes (sources_of F.opens F.Opened.remaining databases.old.files.now N.reaches N.Stream.remaining databases.old.rt (R.remaining input.old)) databases.old.machine databases.new.machine (W.contents output.old) (W.contents output.new) source.now (IsSearchedAtMost (W.contents output.old) (W.contents output.new)) }
+    ensures found { (result ≡ DONE) ⊎ (result ≡ REFUSED) → IsFoundOf H.Store.Store H.Opener.DatabaseOpener (sources_of H.Files.opens H.Files.Opened.remaining databases.old.files.now H.Net.reaches H.Net.Stream.remaining databases.old.rt (H.Input.remaining input.old)) databases.old.machine databases.new.machine source.now result (IsSearched (H.Output.contents output.old) (H.Output.contents output.new) result) }
+    ensures at_most { IsFoundAtMost H.Store.Store H.Opener.DatabaseOpener (sources_of H.Files.opens H.Files.Opened.remaining databases.old.files.now H.Net.reaches H.Net.Stream.remaining databases.old.rt (H.Input.remaining input.old)) databases.old.machine databases.new.machine (H.Output.contents output.old) (H.Output.contents output.new) source.now (IsSearchedAtMost (H.Output.contents output.old) (H.Output.contents output.new)) }
 {
     let tables = match tables_at(databases, alloc, source, input, output, errors) {
         Ok(tables) => tables,

@@ -8,11 +8,10 @@ ghost use Rattle.prt_questions.specs.StatusText.{is_closed, status_text};
 
 use crate::asking::write_text;
 use crate::figures::{is_closed, status_text};
-use crate::local::{LocalNet, Socket};
 use crate::reading::{last_line, report_no_memory};
 use crate::remote::{ServerError, read_status};
-use crate::telling::tell;
 use prt_args::{DONE, FAULT, StatusArgs};
+use prt_machine::{LocalNet, Socket, tell};
 use prt_program::cause_message;
 use std::alloc::Global;
 use std::fmt;

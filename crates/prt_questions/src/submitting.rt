@@ -12,9 +12,9 @@ ghost use Rattle.prt_session.specs.Atomic.{ReadIs};
 ghost use Rattle.prt_args.specs.declared.fault.Fault.TheVariants.{Opening};
 
 use crate::atomic::{accepts_each, exchange, expect_atomic, submission_text};
-use crate::local::LocalNet;
 use crate::remote::ServerError;
 use prt_args::{DONE, FAULT, Fault, STANDARD_INPUT, ServerPlace, Submitting};
+use prt_machine::{LocalNet, Streams};
 use prt_program::{
     ErrorKeeping, Messages, ReadFiles, Refusal, buffered, cause_message, exit_status,
 };
@@ -214,17 +214,17 @@ fn open_script<F: ReadFiles, E: Write + Drop, K: Clock + Drop>(
 /// # Errors
 ///
 /// `Opening` with `ReadFault` if the file can't be opened, or with `NoMemory`: nothing is written.
-fn collect_script<'a, F: ReadFiles, R: Read, W: Write, E: Write + Drop, K: Clock + Drop>(
-    files: &F,
+fn collect_script<'a, H: Streams, E: Write + Drop, K: Clock + Drop>(
+    files: &H::Files,
     alloc: Global,
     file: Option<&'a str>,
-    input: &mut R,
-    output: &mut W,
+    input: &mut H::Input,
+    output: &mut H::Output,
     messages: &mut Messages<'a, E, K>,
 ) -> Result<CommandsRead, Fault>
-    ensures read { IfOk result (IsReadOf (IsRead (IsFileOf F.opens F.Opened.remaining files.now) (R.remaining input.old) (path_of file.entry)) (W.contents output.old) (W.contents output.new)) }
+    ensures read { IfOk result (IsReadOf (IsRead (IsFileOf H.Files.opens H.Files.Opened.remaining files.now) (H.Input.remaining input.old) (path_of file.entry)) (H.Output.contents output.old) (H.Output.contents output.new)) }
     ensures fault { IfErr result (λ fault. (fault ≡ Opening ReadFault) ⊎ (fault ≡ Opening NoMemory)) }
-    ensures unwritten { OnErr result (W.contents output.new ≡ W.contents output.old) }
+    ensures unwritten { OnErr result (H.Output.contents output.new ≡ H.Output.contents output.old) }
 {
     let Some(path) = file else {
         return collect(alloc, input, output, messages);
@@ -236,19 +236,26 @@ fn collect_script<'a, F: ReadFiles, R: Read, W: Write, E: Write + Drop, K: Clock
 }
 
 /// Reads a script, has a server make its commands together, and returns the exit status. The messages say how it ended.
-fn submit_read<'a, F: ReadFiles, N: LocalNet, R: Read, W: Write, E: Write + Drop, K: Clock + Drop>(
-    files: &F,
+fn submit_read<'a, H: Streams, N: LocalNet, E: Write + Drop, K: Clock + Drop>(
+    files: &H::Files,
     rt: &N,
     alloc: Global,
     submitting: &Submitting<'a>,
-    input: &mut R,
-    output: &mut W,
+    input: &mut H::Input,
+    output: &mut H::Output,
     messages: &mut Messages<'a, E, K>,
 ) -> u8
-    ensures run { IsSubmitted (sources_of F.opens F.Opened.remaining files.now N.reaches N.Stream.remaining rt.now (R.remaining input.old)) submitting.now.server (path_of submitting.now.file) (W.contents output.old) (W.contents output.new) result }
-    ensures whole { result ≡ DONE → IsAllMade (sources_of F.opens F.Opened.remaining files.now N.reaches N.Stream.remaining rt.now (R.remaining input.old)) submitting.now.server (path_of submitting.now.file) (W.contents output.old) (W.contents output.new) }
+    ensures run { IsSubmitted (sources_of H.Files.opens H.Files.Opened.remaining files.now N.reaches N.Stream.remaining rt.now (H.Input.remaining input.old)) submitting.now.server (path_of submitting.now.file) (H.Output.contents output.old) (H.Output.contents output.new) result }
+    ensures whole { result ≡ DONE → IsAllMade (sources_of H.Files.opens H.Files.Opened.remaining files.now N.reaches N.Stream.remaining rt.now (H.Input.remaining input.old)) submitting.now.server (path_of submitting.now.file) (H.Output.contents output.old) (H.Output.contents output.new) }
 {
-    let read = match collect_script(files, alloc, submitting.file, input, output, messages) {
+    let read = match collect_script::<H, _, _>(
+        files,
+        alloc,
+        submitting.file,
+        input,
+        output,
+        messages,
+    ) {
         Ok(read) => read,
         Err(fault) => return messages.report(&fault, output),
     };
@@ -272,23 +279,17 @@ fn submit_read<'a, F: ReadFiles, N: LocalNet, R: Read, W: Write, E: Write + Drop
 ///
 /// The status is 0 if all are accepted, 1 if a line or the server refuses them, and 3 for a fault. It is 3 too if the
 /// server isn't reached, takes no atomic scripts or doesn't reply: the messages say if the commands may be made nevertheless.
-pub fn submit_script<
-    F: ReadFiles + Clock,
-    N: LocalNet,
-    R: Read,
-    W: Write + IsTerminal,
-    E: Write + IsTerminal,
->(
-    files: &F,
+pub fn submit_script<H: Streams, N: LocalNet>(
+    files: &H::Files,
     rt: &N,
     alloc: Global,
     submitting: &Submitting<'_>,
-    input: &mut R,
-    output: &mut W,
-    errors: &mut E,
+    input: &mut H::Input,
+    output: &mut H::Output,
+    errors: &mut H::Errors,
 ) -> u8
-    ensures run { IsSubmitted (sources_of F.opens F.Opened.remaining files.now N.reaches N.Stream.remaining rt.now (R.remaining input.old)) submitting.now.server (path_of submitting.now.file) (W.contents output.old) (W.contents output.new) result }
-    ensures whole { result ≡ DONE → IsAllMade (sources_of F.opens F.Opened.remaining files.now N.reaches N.Stream.remaining rt.now (R.remaining input.old)) submitting.now.server (path_of submitting.now.file) (W.contents output.old) (W.contents output.new) }
+    ensures run { IsSubmitted (sources_of H.Files.opens H.Files.Opened.remaining files.now N.reaches N.Stream.remaining rt.now (H.Input.remaining input.old)) submitting.now.server (path_of submitting.now.file) (H.Output.contents output.old) (H.Output.contents output.new) result }
+    ensures whole { result ≡ DONE → IsAllMade (sources_of H.Files.opens H.Files.Opened.remaining files.now N.reaches N.Stream.remaining rt.now (H.Input.remaining input.old)) submitting.now.server (path_of submitting.now.file) (H.Output.contents output.old) (H.Output.contents output.new) }
 {
     let is_told = submitting.is_verbose || errors.is_terminal();
     let mut messages = Messages::new(alloc, &mut *errors, files);
@@ -296,5 +297,5 @@ pub fn submit_script<
         messages.turn_on();
     }
     messages.begin(submitting.file.unwrap_or(STANDARD_INPUT), &*output);
-    submit_read(files, rt, alloc, submitting, input, output, &mut messages)
+    submit_read::<H, _, _, _>(files, rt, alloc, submitting, input, output, &mut messages)
 }

@@ -8,21 +8,18 @@ ghost use Rattle.prt_questions.specs.LeftOut.{AreKernels};
 ghost use Rattle.prt_questions.specs.Sources.{AreTold, HasLeft, IsFileOf, IsRead, path_of, rest_after, rest_by, sources_of};
 
 use crate::asking::{REFUSED, run_over_new};
-use crate::database_opener::{DatabaseOpener, Wanted};
-use crate::databases::DatabaseFiles;
 use crate::left::{tell_all_left_out, tell_left};
-use crate::local::LocalNet;
-use crate::opening::{close_at, open_desk, report_unopened};
 use crate::reading::{read_whole, report_no_memory};
 use crate::remote::read_tables;
-use crate::telling::tell;
 use prt_args::{DONE, FAULT, STANDARD_INPUT, ServerPlace, Source};
-use prt_program::{ReadFiles, cause_message};
+use prt_machine::{
+    DatabaseFiles, DatabaseOpener, Host, LocalNet, Streams, Wanted, close_at, open_desk,
+    report_unopened, tell,
+};
+use prt_program::cause_message;
 use prt_version::Version;
-use sqlite::{Alter, Connection};
 use std::alloc::Global;
-use std::io::{Read, Write};
-use std::sync::Wait;
+use std::io::Write;
 
 /// The tables of a source.
 #[derive(Drop)]
@@ -37,26 +34,19 @@ pub(crate) struct Tables {
 /// # Errors
 ///
 /// The exit status: there is no such database, it can't be opened, or memory is refused. Standard error has the cause.
-fn database_tables<
-    S: Alter + Drop,
-    M: DatabaseOpener<Connection<S>> + Drop,
-    F,
-    H: Wait + Copy + Drop,
-    W: Write,
-    E: Write,
->(
-    databases: &mut DatabaseFiles<'_, S, M, F, H>,
+fn database_tables<H: Host>(
+    databases: &mut DatabaseFiles<'_, H>,
     alloc: Global,
     path: &str,
-    output: &mut W,
-    errors: &mut E,
+    output: &mut H::Output,
+    errors: &mut H::Errors,
 ) -> Result<Tables, u8>
-    ensures read { IfOk result (λ tables. IsAskedAt S.Store M.opens M.refuses M.closes databases.old.machine databases.new.machine path.now (λ state. tables.version ≡ state)) }
-    ensures there { OnOk result (M.is_there databases.old.machine path.now) }
-    ensures unread { IfErr result (λ status. IsNotOpened S.Store M.opens M.refuses M.closes databases.old.machine databases.new.machine Wanted.Ours path.now ⊎ IsAskedAt S.Store M.opens M.refuses M.closes databases.old.machine databases.new.machine path.now (λ state. Unit {0})) }
+    ensures read { IfOk result (λ tables. IsAskedAt H.Store.Store H.Opener.DatabaseOpener databases.old.machine databases.new.machine path.now (λ state. tables.version ≡ state)) }
+    ensures there { OnOk result (H.Opener.is_there databases.old.machine path.now) }
+    ensures unread { IfErr result (λ status. IsNotOpened H.Store.Store H.Opener.DatabaseOpener databases.old.machine databases.new.machine Wanted.Ours path.now ⊎ IsAskedAt H.Store.Store H.Opener.DatabaseOpener databases.old.machine databases.new.machine path.now (λ state. Unit {0})) }
     ensures left { IfOk result (λ tables. (tables.left ≡ DONE) ⊎ (tables.left ≡ REFUSED)) }
     ensures fault { IfErr result (λ status. status ≡ FAULT) }
-    ensures unwritten { W.contents output.new ≡ W.contents output.old }
+    ensures unwritten { H.Output.contents output.new ≡ H.Output.contents output.old }
 {
     let rt = databases.rt;
     let opened = open_desk(&mut databases.machine, rt, alloc, path, Wanted::Ours);
@@ -107,21 +97,21 @@ fn server_tables<N: LocalNet, E: Write>(
 /// # Errors
 ///
 /// The exit status: the script can't be read, or memory is refused. Standard error has the cause.
-fn script_tables<F: ReadFiles, R: Read, W: Write, E: Write>(
-    files: &F,
+fn script_tables<H: Streams>(
+    files: &H::Files,
     alloc: Global,
     file: Option<&str>,
-    input: &mut R,
-    output: &mut W,
-    errors: &mut E,
+    input: &mut H::Input,
+    output: &mut H::Output,
+    errors: &mut H::Errors,
 ) -> Result<Tables, u8>
-    ensures read { IfOk result (λ tables. (made : AcceptedOf) × (text : List ℕ) × IsRead (IsFileOf F.opens F.Opened.remaining files.now) (R.remaining input.old) (path_of file.entry) text × IsExecuted made text × (tables.left ≡ DONE → AreKernels made.left.items) × (tables.version ≡ made.version)) }
-    ensures rest { OnOk result (HasLeft (rest_after (path_of file.entry)) (R.remaining input.old) (R.remaining input.new)) }
+    ensures read { IfOk result (λ tables. (made : AcceptedOf) × (text : List ℕ) × IsRead (IsFileOf H.Files.opens H.Files.Opened.remaining files.now) (H.Input.remaining input.old) (path_of file.entry) text × IsExecuted made text × (tables.left ≡ DONE → AreKernels made.left.items) × (tables.version ≡ made.version)) }
+    ensures rest { OnOk result (HasLeft (rest_after (path_of file.entry)) (H.Input.remaining input.old) (H.Input.remaining input.new)) }
     ensures left { IfOk result (λ tables. (tables.left ≡ DONE) ⊎ (tables.left ≡ REFUSED)) }
     ensures fault { IfErr result (λ status. status ≡ FAULT) }
-    ensures unwritten { W.contents output.new ≡ W.contents output.old }
+    ensures unwritten { H.Output.contents output.new ≡ H.Output.contents output.old }
 {
-    let script = read_whole(files, alloc, file, input, output, errors)?;
+    let script = read_whole::<H, _>(files, alloc, file, input, output, errors)?;
     let made = run_over_new(alloc, &script, output, errors)?;
     let left = tell_left(alloc, file, &made.left, errors);
     tell_all_left_out(alloc, file.unwrap_or(STANDARD_INPUT), &script, errors);
@@ -136,34 +126,26 @@ fn script_tables<F: ReadFiles, R: Read, W: Write, E: Write>(
 /// # Errors
 ///
 /// The exit status: there are no such tables, they can't be read, or memory is refused. Standard error has the cause.
-pub(crate) fn tables_at<
-    S: Alter + Drop,
-    M: DatabaseOpener<Connection<S>> + Drop,
-    F: ReadFiles,
-    N: LocalNet + Wait + Copy + Drop,
-    R: Read,
-    W: Write,
-    E: Write,
->(
-    databases: &mut DatabaseFiles<'_, S, M, F, N>,
+pub(crate) fn tables_at<H: Host>(
+    databases: &mut DatabaseFiles<'_, H>,
     alloc: Global,
     source: &Source<'_>,
-    input: &mut R,
-    output: &mut W,
-    errors: &mut E,
+    input: &mut H::Input,
+    output: &mut H::Output,
+    errors: &mut H::Errors,
 ) -> Result<Tables, u8>
-    ensures read { IfOk result (λ tables. HaveTables S.Store M.opens M.refuses M.closes (sources_of F.opens F.Opened.remaining databases.old.files.now N.reaches N.Stream.remaining databases.old.rt (R.remaining input.old)) databases.old.machine databases.new.machine source.now tables.left tables.version) }
-    ensures rest { OnOk result (HasLeft (rest_by source.now) (R.remaining input.old) (R.remaining input.new)) }
-    ensures unread { IfErr result (λ status. IsNotRead S.Store M.opens M.refuses M.closes (sources_of F.opens F.Opened.remaining databases.old.files.now N.reaches N.Stream.remaining databases.old.rt (R.remaining input.old)) databases.old.machine databases.new.machine source.now) }
+    ensures read { IfOk result (λ tables. HaveTables H.Store.Store H.Opener.DatabaseOpener (sources_of H.Files.opens H.Files.Opened.remaining databases.old.files.now H.Net.reaches H.Net.Stream.remaining databases.old.rt (H.Input.remaining input.old)) databases.old.machine databases.new.machine source.now tables.left tables.version) }
+    ensures rest { OnOk result (HasLeft (rest_by source.now) (H.Input.remaining input.old) (H.Input.remaining input.new)) }
+    ensures unread { IfErr result (λ status. IsNotRead H.Store.Store H.Opener.DatabaseOpener (sources_of H.Files.opens H.Files.Opened.remaining databases.old.files.now H.Net.reaches H.Net.Stream.remaining databases.old.rt (H.Input.remaining input.old)) databases.old.machine databases.new.machine source.now) }
     ensures left { IfOk result (λ tables. (tables.left ≡ DONE) ⊎ (tables.left ≡ REFUSED)) }
     ensures fault { IfErr result (λ status. status ≡ FAULT) }
-    ensures unwritten { W.contents output.new ≡ W.contents output.old }
+    ensures unwritten { H.Output.contents output.new ≡ H.Output.contents output.old }
 {
     match source {
         Source::Database(path) => database_tables(databases, alloc, path, output, errors),
         Source::Server(place) => server_tables(&databases.rt, alloc, place, errors),
         Source::Script(file) => {
-            script_tables(databases.files, alloc, *file, input, output, errors)
+            script_tables::<H>(databases.files, alloc, *file, input, output, errors)
         }
     }
 }

@@ -10,7 +10,7 @@ use Rattle.prt_host.proofs.entry.run.Goals as goal
 pub returns-in-Exit : goal.returns-in-Exit
 returns-in-Exit g c =
     let asked = invocation (arguments c.args.words.now) in
-    exit_alone g.S.Store g.M.DatabaseOpener.opens g.M.DatabaseOpener.closes c.args.databases.now c.program-next.new.databases (λ d. d.machine) g.M.DatabaseOpener.refuses (g.F.ReadFiles.opens c.args.databases.now.files.now) g.F.Opened.Read.remaining _ asked _ c.in-Exit.status c.in-Exit.ensures.run c.in-Exit.ensures.unopened
+    exit_alone g.H.Store.Store g.H-Opener-DatabaseOpener c.args.databases.now c.program-next.new.databases (λ d. d.machine) (g.H.Files.ReadFiles.opens c.args.databases.now.files.now) g.H.Files.Opened.Read.remaining _ asked _ c.in-Exit.status c.in-Exit.ensures.run c.in-Exit.ensures.unopened
 
 pub returns-in-Serve : goal.returns-in-Serve
 returns-in-Serve g c =
@@ -19,22 +19,22 @@ returns-in-Serve g c =
     let mid = c.program-next.new.databases.machine in
     let same : mid ≡ old = same_at c.args.databases.now c.program-next.new.databases (λ d. d.machine) (said.unopened (ap database_of said.serve.0)) in
     let words = arguments c.args.words.now in
-    let ended = has_served g.S.Store g.M.DatabaseOpener.opens g.M.DatabaseOpener.refuses g.M.DatabaseOpener.closes mid old c.serve.new.databases.machine same words c.in-Serve.serving c.serve.result said.serve.2 said.serve.1 c.serve.ensures.done c.serve.ensures.fault c.serve.ensures.why in
+    let ended = has_served g.H.Store.Store g.H-Opener-DatabaseOpener mid old c.serve.new.databases.machine same words c.in-Serve.serving c.serve.result said.serve.2 said.serve.1 c.serve.ensures.done c.serve.ensures.fault c.serve.ensures.why in
     serves words said.serve.0 ended
 
 pub returns-in-Submit : goal.returns-in-Submit
 returns-in-Submit g c =
     let said = c.in-Submit.ensures in
-    let contents = g.W.Write.contents in
-    let remaining = g.R.Read.remaining in
+    let contents = g.H.Output.Write.contents in
+    let remaining = g.H.Input.Read.remaining in
     let sent = c.submit_script-status in
     let all : c.program-next.new.databases ≡ c.args.databases.now = said.unopened (ap database_of said.submit.0.1) in
-    let unread : remaining c.program-next.new.input.stream ≡ remaining c.args.input.now.stream =
-    subst (λ asked. LeavesInput asked (remaining c.args.input.now.stream) (remaining c.program-next.new.input.stream)) said.submit.0.1 said.unread in
+    let unread : remaining c.program-next.new.input ≡ remaining c.args.input.now =
+    subst (λ asked. LeavesInput asked (remaining c.args.input.now) (remaining c.program-next.new.input)) said.submit.0.1 said.unread in
     submits (record { verbose = c.in-Submit.submitting.is_verbose; server = said.submit.0.0; file = path_of c.in-Submit.submitting.file }) said.submit.0.1 (same_at c.args.databases.now c.program-next.new.databases (λ d. d.machine) all)
-    (submits_from _ c.in-Submit.submitting.server said.submit.0.2 c.args.databases.now c.program-next.new.databases all (remaining c.args.input.now.stream) (remaining c.program-next.new.input.stream) unread
-    (λ databases input. sources_of g.F.ReadFiles.opens g.F.Opened.Read.remaining databases.files.now g.N.LocalNet.reaches g.N.Stream.Read.remaining databases.rt input)
-    (contents c.program-next.new.output.stream) (contents c.args.output.now.stream) (contents sent.new.output.stream) said.submit.1 sent.result sent.ensures.run sent.ensures.whole)
+    (submits_from _ c.in-Submit.submitting.server said.submit.0.2 c.args.databases.now c.program-next.new.databases all (remaining c.args.input.now) (remaining c.program-next.new.input) unread
+    (λ databases input. sources_of g.H.Files.ReadFiles.opens g.H.Files.Opened.Read.remaining databases.files.now g.H.Net.LocalNet.reaches g.H.Net.Stream.Read.remaining databases.rt input)
+    (contents c.program-next.new.output) (contents c.args.output.now) (contents sent.new.output) said.submit.1 sent.result sent.ensures.run sent.ensures.whole)
 
 pub returns-in-Ask : goal.returns-in-Ask
 returns-in-Ask g c =
@@ -42,19 +42,19 @@ returns-in-Ask g c =
     let old = c.args.databases.now.machine in
     let mid = c.program-next.new.databases.machine in
     let new = c.answer_question-status.new.databases.machine in
-    let contents = g.W.Write.contents in
-    let writer0 = contents c.args.output.now.stream in
-    let writer_mid = contents c.program-next.new.output.stream in
-    let writer = contents c.answer_question-status.new.output.stream in
+    let contents = g.H.Output.Write.contents in
+    let writer0 = contents c.args.output.now in
+    let writer_mid = contents c.program-next.new.output in
+    let writer = contents c.answer_question-status.new.output in
     let asked = c.answer_question-status in
     let words = arguments c.args.words.now in
     let same : mid ≡ old = same_at c.args.databases.now c.program-next.new.databases (λ d. d.machine) (said.unopened (ap database_of said.ask.0)) in
-    let remaining = g.R.Read.remaining in
+    let remaining = g.H.Input.Read.remaining in
     let all : c.program-next.new.databases ≡ c.args.databases.now = said.unopened (ap database_of said.ask.0) in
-    let unread : remaining c.program-next.new.input.stream ≡ remaining c.args.input.now.stream =
-    subst (λ asked. LeavesInput asked (remaining c.args.input.now.stream) (remaining c.program-next.new.input.stream)) said.ask.0 said.unread in
+    let unread : remaining c.program-next.new.input ≡ remaining c.args.input.now =
+    subst (λ asked. LeavesInput asked (remaining c.args.input.now) (remaining c.program-next.new.input)) said.ask.0 said.unread in
     answers words said.ask.0
-    (has_answered g.S.Store g.M.DatabaseOpener.opens g.M.DatabaseOpener.refuses g.M.DatabaseOpener.closes mid old new same words _ writer_mid writer0 writer said.ask.2 asked.result
-    (asks_from g.S.Store g.M.DatabaseOpener.opens g.M.DatabaseOpener.refuses g.M.DatabaseOpener.closes mid new words c.args.databases.now c.program-next.new.databases all (remaining c.args.input.now.stream) (remaining c.program-next.new.input.stream) unread
-    (λ databases input. sources_of g.F.ReadFiles.opens g.F.Opened.Read.remaining databases.files.now g.N.LocalNet.reaches g.N.Stream.Read.remaining databases.rt input) writer_mid writer asked.result
-    (record { question = c.in-Ask.asked; named = said.ask.1; status_is = asked.ensures.status; whole = asked.ensures.whole; found = asked.ensures.found; closed = asked.ensures.closed; at_most = asked.ensures.at_most })))
+    (has_answered g.H.Store.Store g.H-Opener-DatabaseOpener mid old new same words _ writer_mid writer0 writer said.ask.2 asked.result
+    (asks_from g.H.Store.Store g.H-Opener-DatabaseOpener mid new words c.args.databases.now c.program-next.new.databases all (remaining c.args.input.now) (remaining c.program-next.new.input) unread
+    (λ databases input. sources_of g.H.Files.ReadFiles.opens g.H.Files.Opened.Read.remaining databases.files.now g.H.Net.LocalNet.reaches g.H.Net.Stream.Read.remaining databases.rt input) writer_mid writer asked.result
+    (record { question = c.in-Ask.asked; named = said.ask.1; status_is = asked.ensures.status; whole = asked.ensures.whole; found = asked.ensures.found; unreadable = asked.ensures.unreadable; closed = asked.ensures.closed; at_most = asked.ensures.at_most })))

@@ -15,7 +15,7 @@ pub returns-in-Err-clause-left : goal.returns-in-Err-clause-left
 returns-in-Err-clause-left g c =
     let same : c.seats.new.self ≡ c.args.publisher = c.in-Err.ensures.same in (
       [],
-      left_alone g.S.Store _ _ _ c.seats.new.self.line _ (record {
+      left_alone g.H.Store.Store _ _ _ c.seats.new.self.line _ (record {
         last = c.seats.new.self;
         its = sym c.end.ensures.tables;
         line = refl;

@@ -14,7 +14,7 @@ returns-in-None-clause-ok g c =
       first = made.was;
       last = c.serve_over-failure.result.1;
       is_opened = made.found;
-      made = (has_served g.S.Store _ _ _ made left.0 left.1, left.2 c.in-None.is);
+      made = (has_served g.H.Store.Store _ _ _ made left.0 left.1, left.2 c.in-None.is);
       is_closed = c.close.ensures;
     }
 
@@ -28,7 +28,7 @@ returns-in-Some-clause-err g c =
         first = made.was;
         last = c.serve_over-failure.result.1;
         is_opened = made.found;
-        made = has_served g.S.Store _ _ _ made left.0 left.1;
+        made = has_served g.H.Store.Store _ _ _ made left.0 left.1;
         is_closed = c.close.ensures;
       },
       subst (λ (f : Option ServeError). IfSome f (λ failure. IsFaultOfServing failure.fault)) c.in-Some.is c.serve_over-failure.ensures.fault,

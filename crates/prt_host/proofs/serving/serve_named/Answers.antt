@@ -5,7 +5,7 @@ use Rattle.prt_host.proofs.Served.{left_alone, left_with, no_fault, of_book}
 use Rattle.prt_host.proofs.serving.serve_named.Goals as goal
 
 pub are_kept-requires : goal.are_kept-requires
-are_kept-requires g c = of_book g.S.Store g.J.ServiceBrand.book g.J.ServiceBrand.base g.J.ServiceBrand.ours_first c.end-conn.result.published c.end-conn.result.conn c.end-conn.ensures
+are_kept-requires g c = of_book g.H.Store.Store g.J.ServiceBrand.book g.J.ServiceBrand.base g.J.ServiceBrand.ours_first c.end-conn.result.published c.end-conn.result.conn c.end-conn.ensures
 
 pub returns-then-are_kept : goal.returns-then-are_kept
 returns-then-are_kept g c =
@@ -15,12 +15,12 @@ returns-then-are_kept g c =
     let many : length shifts ≡ vec_len c.serve_reporting-shifts.result.shifts = cc (c.as_slice.ensures.value, c.as_slice.ensures.len) in
     let kept : All (Keeps published) shifts = subst (λ (xs : List Work). All (Keeps published) xs) c.as_slice.ensures.value (c.are_kept.ensures c.if-are_kept.true) in (
       shifts,
-      left_with g.S.Store g.J.ServiceBrand.book g.J.ServiceBrand.base g.J.ServiceBrand.ours_first published c.end-conn.result.conn c.end-conn.ensures shifts kept,
+      left_with g.H.Store.Store g.J.ServiceBrand.book g.J.ServiceBrand.base g.J.ServiceBrand.ours_first published c.end-conn.result.conn c.end-conn.ensures shifts kept,
       (λ none.
           let fine = no_fault end.accepting end.feeding end.refused none in
-          many ∙ (c.serve_reporting-shifts.ensures fine.0 fine.1 ∙ c.limits_of.ensures)),
+          many ∙ c.serve_reporting-shifts.ensures fine.0 fine.1),
     )
 
 pub returns : goal.returns
 returns g c =
-    ([], left_alone g.S.Store g.J.ServiceBrand.book g.J.ServiceBrand.base g.J.ServiceBrand.ours_first c.end-conn.result.published c.end-conn.result.conn c.end-conn.ensures, (λ none. absurd (c.not_kept.ensures none)))
+    ([], left_alone g.H.Store.Store g.J.ServiceBrand.book g.J.ServiceBrand.base g.J.ServiceBrand.ours_first c.end-conn.result.published c.end-conn.result.conn c.end-conn.ensures, (λ none. absurd (c.not_kept.ensures none)))

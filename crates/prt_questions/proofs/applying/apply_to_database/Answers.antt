@@ -7,13 +7,13 @@ pub returns-clause-whole : goal.returns-clause-whole
 returns-clause-whole g c = λ done.
     let opened = c.in-Ok.ensures.opened in
     let made = c.make-status.ensures in
-    let left : Leaves g.S.Store c.in-Ok.made.0 c.end-last.result = record { done = c.make-status.new.publisher; its = sym c.end-last.ensures.tables; quiet = made.quiet; file = made.file; stands = c.end-last.ensures.stands } in
+    let left : Leaves g.H.Store.Store c.in-Ok.made.0 c.end-last.result = record { done = c.make-status.new.publisher; its = sym c.end-last.ensures.tables; quiet = made.quiet; file = made.file; stands = c.end-last.ensures.stands } in
     record {
       between = c.open_publisher-opened.new.machine;
       first = opened.was;
       last = c.end-last.result;
-      is_opened = subst (λ wanted. g.M.DatabaseOpener.opens wanted c.args.databases.now.machine c.open_publisher-opened.new.machine c.args.path.now opened.was) c.wanted_by.ensures opened.found;
-      made = (c.in-Ok.made.0, over_found g.S.Store _ _ opened, (left, makes_tables c.args.manner.is_dry_run c.args.wanted.now left made.dry (made.made done) (made.together done)), made.whole done);
+      is_opened = subst (λ wanted. g.H-Opener-DatabaseOpener.opens wanted c.args.databases.now.machine c.open_publisher-opened.new.machine c.args.path.now opened.was) c.wanted_by.ensures opened.found;
+      made = (c.in-Ok.made.0, over_found g.H.Store.Store _ _ opened, (left, makes_tables c.args.manner.is_dry_run c.args.wanted.now left made.dry (made.made done) (made.together done)), made.whole done);
       is_closed = c.close_at.ensures;
     }
 
@@ -21,13 +21,13 @@ pub returns-clause-at_most : goal.returns-clause-at_most
 returns-clause-at_most g c =
     let opened = c.in-Ok.ensures.opened in
     let made = c.make-status.ensures in
-    let left : Leaves g.S.Store c.in-Ok.made.0 c.end-last.result = record { done = c.make-status.new.publisher; its = sym c.end-last.ensures.tables; quiet = made.quiet; file = made.file; stands = c.end-last.ensures.stands } in
+    let left : Leaves g.H.Store.Store c.in-Ok.made.0 c.end-last.result = record { done = c.make-status.new.publisher; its = sym c.end-last.ensures.tables; quiet = made.quiet; file = made.file; stands = c.end-last.ensures.stands } in
     inr (record {
       between = c.open_publisher-opened.new.machine;
       first = opened.was;
       last = c.end-last.result;
-      is_opened = subst (λ wanted. g.M.DatabaseOpener.opens wanted c.args.databases.now.machine c.open_publisher-opened.new.machine c.args.path.now opened.was) c.wanted_by.ensures opened.found;
-      made = (c.in-Ok.made.0, over_found g.S.Store _ _ opened, (left, made.dry), made.part);
+      is_opened = subst (λ wanted. g.H-Opener-DatabaseOpener.opens wanted c.args.databases.now.machine c.open_publisher-opened.new.machine c.args.path.now opened.was) c.wanted_by.ensures opened.found;
+      made = (c.in-Ok.made.0, over_found g.H.Store.Store _ _ opened, (left, made.dry), made.part);
       is_closed = c.close_at.ensures;
     })
 

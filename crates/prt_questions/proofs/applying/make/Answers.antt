@@ -16,7 +16,7 @@ returns-clause-made g c = λ done wet. elim c.if-not-manner.branch [
 pub returns-clause-together : goal.returns-clause-together
 returns-clause-together g c = λ done wet. elim c.if-not-manner.branch [
   | then-not-manner+in_default w ↦
-      rw w.publisher-is (subst (λ commands. AreStoredTogether g.S.Store c.args.publisher.now commands w.submit.new.publisher)
+      rw w.publisher-is (subst (λ commands. AreStoredTogether g.H.Store.Store c.args.publisher.now commands w.submit.new.publisher)
       (w.as_slice.ensures.value ∙ c.in-Ok.ensures.commands ∙ ap (λ found. plan found c.args.wanted.now) c.published-found.ensures) w.in_default.ensures.together)
   | else-not-manner w ↦ grind (arith, w.if-not-manner.false, wet)
 ]

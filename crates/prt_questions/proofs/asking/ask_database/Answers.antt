@@ -12,7 +12,7 @@ pub returns : goal.returns
 returns g c =
     let opened = c.in-Ok.ensures.opened in
     let stored = line_state c.in-Ok.desk.line in
-    let kept : HasOpened g.S.Store opened.was c.end.result stored = subst (λ (last : Held _). HasOpened g.S.Store opened.was last stored) (sym c.end.ensures.tables) opened.opened in
+    let kept : HasOpened g.H.Store.Store opened.was c.end.result stored = subst (λ (last : Held _). HasOpened g.H.Store.Store opened.was last stored) (sym c.end.ensures.tables) opened.opened in
     let text : List ℕ = said c.args.inquiry.now stored in
     let says = subst (λ state. IfOk c.said-answered.result (λ made. made.text.items ≡ said c.args.inquiry.now state)) c.version.ensures c.said-answered.ensures.text in
     let notes = subst (λ state. IfOk c.said-answered.result (λ made. AreNotes c.args.inquiry.now.question state made.notes)) c.version.ensures c.said-answered.ensures.notes in

@@ -12,17 +12,17 @@ pub returns-then-following-clause-whole : goal.returns-then-following-clause-who
 returns-then-following-clause-whole g c = λ done.
     let both = both_done _ _ _ c.or_left.ensures done in
     let begun = c.in-Ok-begin_at.ensures.begun in
-    let writer = g.W.Write.contents c.write_made-written.new.output in
+    let writer = g.H.Output.Write.contents c.write_made-written.new.output in
     let text = c.in-Ok-begin_at.begun.2.text.items in
     let wrote = subst (λ (a : Option (List ℕ)). Appends a writer text) (c.in-Ok-begin_at.ensures.unwritten ∙ c.in-Ok.ensures.unwritten) (c.write_made-written.ensures.whole (inl both.0)) in
-    (c.in-Ok.listing.found, c.in-Ok.listing.fence, c.in-Ok.ensures.kept both.1, begun.0, begun.1, subst (Appends (g.W.Write.contents c.args.output.now) writer) begun.4 wrote, (c.in-Ok-begin_at.begun.2.notes, begun.5, c.write_made-written.ensures.change both.0))
+    (c.in-Ok.listing.found, c.in-Ok.listing.fence, c.in-Ok.ensures.kept both.1, begun.0, begun.1, subst (Appends (g.H.Output.Write.contents c.args.output.now) writer) begun.4 wrote, (c.in-Ok-begin_at.begun.2.notes, begun.5, c.write_made-written.ensures.change both.0))
 
 pub returns-then-following-clause-at_most : goal.returns-then-following-clause-at_most
 returns-then-following-clause-at_most g c =
     let begun = c.in-Ok-begin_at.ensures.begun in
     let fence = c.in-Ok.listing.fence in
-    let before = g.W.Write.contents c.args.output.now in
-    let writer = g.W.Write.contents c.write_made-written.new.output in
+    let before = g.H.Output.Write.contents c.args.output.now in
+    let writer = g.H.Output.Write.contents c.write_made-written.new.output in
     let text = c.in-Ok-begin_at.begun.2.text.items in
     let wrote = subst (λ (a : Option (List ℕ)). Written false a writer text) (c.in-Ok-begin_at.ensures.unwritten ∙ c.in-Ok.ensures.unwritten) c.write_made-written.ensures.part in
     inr (
@@ -41,9 +41,9 @@ pub returns-clause-at_most : goal.returns-clause-at_most
 returns-clause-at_most g c =
     let begun = c.in-Ok-begin_at.ensures.begun in
     let fence = c.in-Ok.listing.fence in
-    let before = g.W.Write.contents c.args.output.now in
-    let middle = g.W.Write.contents c.write_made-written.new.output in
-    let writer = g.W.Write.contents c.follow_on.new.output in
+    let before = g.H.Output.Write.contents c.args.output.now in
+    let middle = g.H.Output.Write.contents c.write_made-written.new.output in
+    let writer = g.H.Output.Write.contents c.follow_on.new.output in
     let text = c.in-Ok-begin_at.begun.2.text.items in
     let all : (c.write_made-written.result ≡ DONE) ⊎ (c.write_made-written.result ≡ REFUSED) = search (rules, c.write_made-written.ensures.status, c.if-written-eq-FAULT.false) in
     let wrote = subst (λ (a : Option (List ℕ)). Written true a middle text) (c.in-Ok-begin_at.ensures.unwritten ∙ c.in-Ok.ensures.unwritten) (c.write_made-written.ensures.whole all) in

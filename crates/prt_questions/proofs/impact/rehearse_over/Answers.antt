@@ -26,13 +26,13 @@ returns-then-is_stopped-clause-found g c = λ status. inl (
 
 pub returns-clause-found : goal.returns-clause-found
 returns-clause-found g c = λ status.
-    let writer = g.W.Write.contents c.write_impact-shown.new.output in
+    let writer = g.H.Output.Write.contents c.write_impact-shown.new.output in
     let done = c.or_left-2.result in
     let shown : (c.write_impact-shown.result ≡ DONE) ⊎ (c.write_impact-shown.result ≡ REFUSED) = search (rules, c.or_left-2.ensures, status) in
     let w = c.write_impact-shown.ensures.whole shown in
     let kept = λ (all : c.tell_left-left.result ≡ DONE). subst AreKernels c.deref-2.ensures.value (c.tell_left-left.ensures.kernels all) in
-    subst (λ writer0. IsRehearsed (IsRead (IsFileOf g.F.ReadFiles.opens g.F.Opened.Read.remaining c.args.files.now) (g.R.Read.remaining c.args.input.now) (path_of c.args.rehearsing.now.file)) writer0 writer c.args.rehearsing.now done c.args.tables.now.version) c.in-Ok.ensures.unwritten
-    (shows _ (g.W.Write.contents c.read_whole.new.output) writer c.args.rehearsing.now c.args.tables.now.version c.in-Ok-accept_over.made c.in-Ok.script.items c.in-Ok.ensures.read (subst (IsExecutedOver c.args.tables.now.version c.in-Ok-accept_over.made) c.deref.ensures.value c.in-Ok-accept_over.ensures.ok) done w.0 w.1 w.2 (λ stops. kept (c.is_stopped.ensures.goes_on c.if-is_stopped.false stops))
+    subst (λ writer0. IsRehearsed (IsRead (IsFileOf g.H.Files.ReadFiles.opens g.H.Files.Opened.Read.remaining c.args.files.now) (g.H.Input.Read.remaining c.args.input.now) (path_of c.args.rehearsing.now.file)) writer0 writer c.args.rehearsing.now done c.args.tables.now.version) c.in-Ok.ensures.unwritten
+    (shows _ (g.H.Output.Write.contents c.read_whole.new.output) writer c.args.rehearsing.now c.args.tables.now.version c.in-Ok-accept_over.made c.in-Ok.script.items c.in-Ok.ensures.read (subst (IsExecutedOver c.args.tables.now.version c.in-Ok-accept_over.made) c.deref.ensures.value c.in-Ok-accept_over.ensures.ok) done w.0 w.1 w.2 (λ stops. kept (c.is_stopped.ensures.goes_on c.if-is_stopped.false stops))
     (λ all. (
     let both = both_done _ _ _ c.or_left-2.ensures all in
     let lines = both_done _ _ _ c.or_left.ensures both.1 in
@@ -41,6 +41,6 @@ returns-clause-found g c = λ status.
 
 pub returns-clause-at_most : goal.returns-clause-at_most
 returns-clause-at_most g c =
-    let writer = g.W.Write.contents c.write_impact-shown.new.output in
-    subst (λ writer0. IsRehearsedAtMost (IsRead (IsFileOf g.F.ReadFiles.opens g.F.Opened.Read.remaining c.args.files.now) (g.R.Read.remaining c.args.input.now) (path_of c.args.rehearsing.now.file)) writer0 writer c.args.rehearsing.now c.args.tables.now.version) c.in-Ok.ensures.unwritten
-    (shows_at_most _ (g.W.Write.contents c.read_whole.new.output) writer c.args.rehearsing.now c.args.tables.now.version c.in-Ok-accept_over.made c.in-Ok.script.items c.in-Ok.ensures.read (subst (IsExecutedOver c.args.tables.now.version c.in-Ok-accept_over.made) c.deref.ensures.value c.in-Ok-accept_over.ensures.ok) c.write_impact-shown.ensures.part)
+    let writer = g.H.Output.Write.contents c.write_impact-shown.new.output in
+    subst (λ writer0. IsRehearsedAtMost (IsRead (IsFileOf g.H.Files.ReadFiles.opens g.H.Files.Opened.Read.remaining c.args.files.now) (g.H.Input.Read.remaining c.args.input.now) (path_of c.args.rehearsing.now.file)) writer0 writer c.args.rehearsing.now c.args.tables.now.version) c.in-Ok.ensures.unwritten
+    (shows_at_most _ (g.H.Output.Write.contents c.read_whole.new.output) writer c.args.rehearsing.now c.args.tables.now.version c.in-Ok-accept_over.made c.in-Ok.script.items c.in-Ok.ensures.read (subst (IsExecutedOver c.args.tables.now.version c.in-Ok-accept_over.made) c.deref.ensures.value c.in-Ok-accept_over.ensures.ok) c.write_impact-shown.ensures.part)

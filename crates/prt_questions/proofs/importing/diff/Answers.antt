@@ -8,31 +8,31 @@ use Rattle.prt_questions.proofs.importing.diff.Goals as goal
 
 pub returns-clause-whole : goal.returns-clause-whole
 returns-clause-whole g c = λ done.
-    let from = sources_of g.F.ReadFiles.opens g.F.Opened.Read.remaining c.args.databases.now.files.now g.N.LocalNet.reaches g.N.Stream.Read.remaining c.args.databases.now.rt (g.R.Read.remaining c.args.input.now) in
+    let from = sources_of g.H.Files.ReadFiles.opens g.H.Files.Opened.Read.remaining c.args.databases.now.files.now g.H.Net.LocalNet.reaches g.H.Net.Stream.Read.remaining c.args.databases.now.rt (g.H.Input.Read.remaining c.args.input.now) in
     let file = path_of c.args.diffing.now.file in
     let shown = c.args.diffing.now.shown in
     let source = c.args.diffing.now.source in
     let old = c.args.databases.now.machine in
     let new = c.show_difference-shown.new.databases.machine in
-    let writer = g.W.Write.contents c.show_difference-shown.new.output in
+    let writer = g.H.Output.Write.contents c.show_difference-shown.new.output in
     let fence = c.in-Ok.listing.fence in
     let found = c.in-Ok.listing.found in
     let both = both_done _ _ _ c.or_left.ensures done in
-    let shows = shown_later g.S.Store g.M.DatabaseOpener.opens g.M.DatabaseOpener.refuses g.M.DatabaseOpener.closes from (rest_after file) (g.R.Read.remaining c.read_fenced.new.input) c.in-Ok.ensures.left old new (g.W.Write.contents c.read_fenced.new.output) writer shown fence found source (c.show_difference-shown.ensures.whole both.0) in
-    subst (λ (writer0 : Option (List ℕ)). HasCompared g.S.Store g.M.DatabaseOpener.opens g.M.DatabaseOpener.refuses g.M.DatabaseOpener.closes from old new writer0 writer file c.args.diffing.now.reach shown source) c.in-Ok.ensures.unwritten
-    (compared g.S.Store g.M.DatabaseOpener.opens g.M.DatabaseOpener.refuses g.M.DatabaseOpener.closes from old new (g.W.Write.contents c.read_fenced.new.output) writer file c.args.diffing.now.reach source shown found fence (c.in-Ok.ensures.kept both.1) shows)
+    let shows = shown_later g.H.Store.Store g.H-Opener-DatabaseOpener from (rest_after file) (g.H.Input.Read.remaining c.read_fenced.new.input) c.in-Ok.ensures.left old new (g.H.Output.Write.contents c.read_fenced.new.output) writer shown fence found source (c.show_difference-shown.ensures.whole both.0) in
+    subst (λ (writer0 : Option (List ℕ)). HasCompared g.H.Store.Store g.H-Opener-DatabaseOpener from old new writer0 writer file c.args.diffing.now.reach shown source) c.in-Ok.ensures.unwritten
+    (compared g.H.Store.Store g.H-Opener-DatabaseOpener from old new (g.H.Output.Write.contents c.read_fenced.new.output) writer file c.args.diffing.now.reach source shown found fence (c.in-Ok.ensures.kept both.1) shows)
 
 pub returns-clause-at_most : goal.returns-clause-at_most
 returns-clause-at_most g c =
-    let from = sources_of g.F.ReadFiles.opens g.F.Opened.Read.remaining c.args.databases.now.files.now g.N.LocalNet.reaches g.N.Stream.Read.remaining c.args.databases.now.rt (g.R.Read.remaining c.args.input.now) in
+    let from = sources_of g.H.Files.ReadFiles.opens g.H.Files.Opened.Read.remaining c.args.databases.now.files.now g.H.Net.LocalNet.reaches g.H.Net.Stream.Read.remaining c.args.databases.now.rt (g.H.Input.Read.remaining c.args.input.now) in
     let file = path_of c.args.diffing.now.file in
     let shown = c.args.diffing.now.shown in
     let source = c.args.diffing.now.source in
     let old = c.args.databases.now.machine in
     let new = c.show_difference-shown.new.databases.machine in
-    let writer = g.W.Write.contents c.show_difference-shown.new.output in
+    let writer = g.H.Output.Write.contents c.show_difference-shown.new.output in
     let fence = c.in-Ok.listing.fence in
     let found = c.in-Ok.listing.found in
-    let shows = shown_at_most_later g.S.Store g.M.DatabaseOpener.opens g.M.DatabaseOpener.refuses g.M.DatabaseOpener.closes from (rest_after file) (g.R.Read.remaining c.read_fenced.new.input) c.in-Ok.ensures.left old new (g.W.Write.contents c.read_fenced.new.output) writer shown fence found source c.show_difference-shown.ensures.at_most in
-    subst (λ (writer0 : Option (List ℕ)). HasComparedAtMost g.S.Store g.M.DatabaseOpener.opens g.M.DatabaseOpener.refuses g.M.DatabaseOpener.closes from old new writer0 writer file c.args.diffing.now.reach shown source) c.in-Ok.ensures.unwritten
-    (compared_at_most g.S.Store g.M.DatabaseOpener.opens g.M.DatabaseOpener.refuses g.M.DatabaseOpener.closes from old new (g.W.Write.contents c.read_fenced.new.output) writer file c.args.diffing.now.reach source shown found fence c.in-Ok.ensures.made shows)
+    let shows = shown_at_most_later g.H.Store.Store g.H-Opener-DatabaseOpener from (rest_after file) (g.H.Input.Read.remaining c.read_fenced.new.input) c.in-Ok.ensures.left old new (g.H.Output.Write.contents c.read_fenced.new.output) writer shown fence found source c.show_difference-shown.ensures.at_most in
+    subst (λ (writer0 : Option (List ℕ)). HasComparedAtMost g.H.Store.Store g.H-Opener-DatabaseOpener from old new writer0 writer file c.args.diffing.now.reach shown source) c.in-Ok.ensures.unwritten
+    (compared_at_most g.H.Store.Store g.H-Opener-DatabaseOpener from old new (g.H.Output.Write.contents c.read_fenced.new.output) writer file c.args.diffing.now.reach source shown found fence c.in-Ok.ensures.made shows)

@@ -13,7 +13,7 @@ returns-in-Ok-shared-clause-read g c =
       first = opened.was;
       last = c.end.result;
       is_opened = opened.found;
-      made = (stored, subst (λ (last : Held _). HasOpened g.S.Store opened.was last stored) (sym c.end.ensures.tables) opened.opened, c.in-Ok-shared.ensures ∙ c.version.ensures);
+      made = (stored, subst (λ (last : Held _). HasOpened g.H.Store.Store opened.was last stored) (sym c.end.ensures.tables) opened.opened, c.in-Ok-shared.ensures ∙ c.version.ensures);
       is_closed = c.close_at.ensures;
     }
 
@@ -26,6 +26,6 @@ returns-in-Err-shared-clause-unread g c =
       first = opened.was;
       last = c.end.result;
       is_opened = opened.found;
-      made = (stored, subst (λ (last : Held _). HasOpened g.S.Store opened.was last stored) (sym c.end.ensures.tables) opened.opened, tt);
+      made = (stored, subst (λ (last : Held _). HasOpened g.H.Store.Store opened.was last stored) (sym c.end.ensures.tables) opened.opened, tt);
       is_closed = c.close_at.ensures;
     })

@@ -16,7 +16,7 @@ pub enum Wanted {
 /// Opens and closes the database files of a machine. An open one is a connection `C`.
 pub trait DatabaseOpener<C> {
     ghost use Rattle.std.specs.Prelude.{List, ℕ};
-    ghost use Rattle.prt_questions.specs.declared.database_opener.Wanted.{Wanted};
+    ghost use Rattle.prt_machine.specs.declared.database_opener.Wanted.{Wanted};
 
     /// What an opening of the file at a path, if it is one that is wanted, makes of the machine. It returns this connection.
     ghost opens: { Wanted → Self → Self → List ℕ → C → Type 0 };

@@ -1,8 +1,8 @@
 //! Where a server listens: a TCP port, or a Unix socket.
 
-use prt_questions::{LocalNet, set_local_accept_timeout};
+use crate::local::{LocalNet, set_local_accept_timeout};
 use std::fs::Files;
-use std::io::{self, ErrorKind};
+use std::io::{self, ErrorKind, Read, Write};
 use std::net::{
     Ipv4Addr, Net, OpenListener, OpenStream, SocketAddr, SocketAddrV4, TcpListener, TcpStream,
 };
@@ -15,8 +15,11 @@ const PATIENCE: u64 = 100;
 
 /// A network on which a server listens.
 pub trait ServerNet: LocalNet {
+    /// A connection that a listener accepted.
+    type Accepted: Read + Write + OpenStream + Drop + Send;
+
     /// A listener. An `accept` returns after 100 ms with `WouldBlock` if nobody comes.
-    type Door: OpenListener<Stream = Self::Stream> + Drop;
+    type Door: OpenListener<Stream = Self::Accepted> + Drop + Sync;
 
     /// Listens at a TCP port; port 0 is any free one.
     fn at_address(&self, place: SocketAddrV4) -> io::Result<Self::Door>;
@@ -85,6 +88,8 @@ fn bind_at<N: LocalNet, F: Files>(rt: &N, files: &F, path: &str) -> io::Result<U
 }
 
 impl ServerNet for HostRuntime {
+    type Accepted = TcpStream;
+
     type Door = Door;
 
     fn at_address(&self, place: SocketAddrV4) -> io::Result<Door> {
@@ -116,7 +121,7 @@ fn local_client() -> SocketAddr {
 }
 
 /// Checks whether a client is at a Unix socket.
-pub(crate) fn is_local(client: &SocketAddr) -> bool {
+pub fn is_local(client: &SocketAddr) -> bool {
     *client == local_client()
 }
 

@@ -1,6 +1,6 @@
 //! Why a database could not be opened.
 ghost use Rattle.sqlite.specs.Held.{Held};
-ghost use Rattle.prt_questions.specs.Closing.{IsOnlyRead};
+ghost use Rattle.prt_machine.specs.Closing.{IsOnlyRead};
 
 use crate::database_opener::{DatabaseOpener, Wanted};
 use prt_program::Refusal;

@@ -2,7 +2,7 @@ use Rattle.std.proofs.Common.{◌≡◌, inr, Ok, subst}
 use Rattle.std.specs.Prelude.{IfOk, OnOk, Result}
 use Rattle.sqlite.specs.Held.{Held}
 use Rattle.prt_publisher.specs.Openings.{RefusesToOpen}
-use Rattle.prt_questions.proofs.opening.open_publisher.Goals as goal
+use Rattle.prt_machine.proofs.opening.open_publisher.Goals as goal
 
 pub returns-in-Ok-clause-opened : goal.returns-in-Ok-clause-opened
 returns-in-Ok-clause-opened g c =

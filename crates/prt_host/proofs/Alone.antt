@@ -4,6 +4,8 @@ use Rattle.sqlite.specs.Held.{Held}
 use Rattle.sqlite.specs.Store.{Ghosts}
 use Rattle.prt_addr.specs.Word.{Word}
 use Rattle.prt_refusals.specs.declared.refusal.Refusal.{Refusal}
+use Rattle.prt_machine.specs.declared.database_opener.DatabaseOpener.{Ghosts as Opener}
+use Rattle.prt_machine.specs.declared.database_opener.Wanted.TheVariants.{Any}
 use Rattle.prt_desk.specs.Remains.{Remains}
 use Rattle.prt_desk.specs.StoreDesk.{IsKept, IsStoreMishap, LeavesFound, StandsFor}
 use Rattle.prt_program.specs.Faults.{database_of}
@@ -12,19 +14,19 @@ use Rattle.prt_publisher.specs.Openings.{OpensOne}
 use Rattle.prt_version.specs.Sound.{IsSound}
 use Rattle.prt_args.specs.Invocation.{Invocation, batch, check, replay}
 use Rattle.prt_args.specs.declared.task.Mode.{Mode}
-use Rattle.prt_questions.specs.Sessions.{RunsOverMachine}
+use Rattle.prt_host.specs.Sessions.{RunsOverMachine}
 
 -- ---- the same run, of the machine alone
 
-module _ {D M S : Type 0} (g : Ghosts S) (opens : M → M → List ℕ → Held S → Type 0) (closes : M → M → Held S → Type 0) (old new : D) (machine : D → M) where
+module _ {D M S : Type 0} (g : Ghosts S) (by : Opener M (Held S)) (old new : D) (machine : D → M) where
   -- as the program says it of all that stands round a machine
   abbrev pub RunsRound : Word → SessionFact
   RunsRound path =
-      RunsAt (λ _ _ opened. IsSound opened) (λ (old new : D) path desk. OpensOne g (opens (machine old) (machine new) path) desk) (λ (old new : D) desk. IsKept g desk × closes (machine old) (machine new) desk.tables)
+      RunsAt (λ _ _ opened. IsSound opened) (λ (old new : D) path desk. OpensOne g (by.opens Any (machine old) (machine new) path) desk) (λ (old new : D) desk. IsKept g desk × by.closes (machine old) (machine new) desk.tables)
       (LeavesFound g) (StandsFor g) (Remains g) IsStoreMishap old new path
 
   abbrev pub Alone : Word → SessionFact
-  Alone = RunsOverMachine g opens closes (machine old) (machine new)
+  Alone = RunsOverMachine g by (machine old) (machine new)
 
   at_alone : (path : Word) (mode : Mode) (streams : Streams) (status : ℕ) → RunsRound path mode streams status → Alone path mode streams status
   at_alone path mode streams status run = record {

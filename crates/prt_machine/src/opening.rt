@@ -3,7 +3,7 @@ ghost use Rattle.std.specs.Prelude.{◌≡◌, IfErr, IfOk, OnOk};
 ghost use Rattle.prt_refusals.specs.Opening.{IsOpenRefusal};
 ghost use Rattle.prt_desk.specs.StoreDesk.{StandsFor, published};
 ghost use Rattle.prt_published.specs.Line.{line_state};
-ghost use Rattle.prt_questions.specs.Closing.{LeavesNoneOpen};
+ghost use Rattle.prt_machine.specs.Closing.{LeavesNoneOpen};
 ghost use Rattle.prt_publisher.specs.Openings.{OpensOne};
 ghost use Rattle.prt_publisher.specs.Standing.{IsQuiet};
 ghost use Rattle.prt_session.specs.Open.{IsOpenOn};
@@ -40,7 +40,7 @@ pub fn open_publisher<S: Alter + Drop, M: DatabaseOpener<Connection<S>>>(
     ensures opened { IfOk result (λ made. OpensOne S.Store (M.opens wanted machine.old machine.new path.now) made.0) }
     ensures there { wanted ≡ Wanted.Ours → OnOk result (M.is_there machine.old path.now) }
     ensures reason { IfErr result (λ refused. IsOpenRefusal refused.0) }
-    ensures closed { IfErr result (λ refused. LeavesNoneOpen (M.opens wanted) (M.refuses wanted) M.closes S.Store refused.0 machine.old machine.new path.now) }
+    ensures closed { IfErr result (λ refused. LeavesNoneOpen S.Store M.DatabaseOpener wanted refused.0 machine.old machine.new path.now) }
 {
     match publisher_over(alloc, machine.open(path, wanted)) {
         Ok(made) => Ok(made),
@@ -65,7 +65,7 @@ pub fn open_publisher<S: Alter + Drop, M: DatabaseOpener<Connection<S>>>(
 /// # Errors
 ///
 /// As of `open_publisher`.
-pub(crate) fn open_desk<S: Alter + Drop, M: DatabaseOpener<Connection<S>>, H: Wait + Copy + Drop>(
+pub fn open_desk<S: Alter + Drop, M: DatabaseOpener<Connection<S>>, H: Wait + Copy + Drop>(
     machine: &mut M,
     rt: H,
     alloc: Global,
@@ -76,7 +76,7 @@ pub(crate) fn open_desk<S: Alter + Drop, M: DatabaseOpener<Connection<S>>, H: Wa
     ensures opened { IfOk result (OpensOne S.Store (M.opens wanted machine.old machine.new path.now)) }
     ensures there { wanted ≡ Wanted.Ours → OnOk result (M.is_there machine.old path.now) }
     ensures reason { IfErr result (λ refused. IsOpenRefusal refused.0) }
-    ensures closed { IfErr result (λ refused. LeavesNoneOpen (M.opens wanted) (M.refuses wanted) M.closes S.Store refused.0 machine.old machine.new path.now) }
+    ensures closed { IfErr result (λ refused. LeavesNoneOpen S.Store M.DatabaseOpener wanted refused.0 machine.old machine.new path.now) }
 {
     match open_publisher(machine, alloc, path, wanted) {
         Ok((publisher, domain)) => Ok(StoreDesk::new(rt, publisher, domain)),
@@ -85,7 +85,7 @@ pub(crate) fn open_desk<S: Alter + Drop, M: DatabaseOpener<Connection<S>>, H: Wa
 }
 
 /// Reports why a database could not be opened, and returns the exit status for it.
-pub(crate) fn report_unopened<W: Write, E: Write>(
+pub fn report_unopened<W: Write, E: Write>(
     alloc: Global,
     path: &str,
     refused: (Refusal, Option<Cause>),
@@ -104,7 +104,7 @@ pub(crate) fn report_unopened<W: Write, E: Write>(
 }
 
 /// Closes the database at a path, and reports it if its log could not be moved into its file.
-pub(crate) fn close_at<C, M: DatabaseOpener<C>, E: Write>(
+pub fn close_at<C, M: DatabaseOpener<C>, E: Write>(
     machine: &mut M,
     alloc: Global,
     path: &str,

@@ -38,7 +38,7 @@ impl Socket {
 pub trait LocalNet: Net {
     ghost use Rattle.std.specs.Prelude.{List, ℕ};
     ghost use Rattle.prt_args.specs.declared.server_place.ServerPlace.{ServerPlace as Place};
-    ghost use Rattle.prt_questions.specs.declared.local.Socket.{Socket};
+    ghost use Rattle.prt_machine.specs.declared.local.Socket.{Socket};
 
     /// That a connection to this socket of the server at a place, over which these bytes were sent, may be this.
     ghost reaches: { Self → Place → Socket → List ℕ → Self.Stream → Type 0 };

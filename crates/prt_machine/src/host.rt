@@ -1,0 +1,50 @@
+//! What the program runs on.
+
+use crate::database_opener::DatabaseOpener;
+use crate::door::ServerNet;
+use crate::measures::Measures;
+use prt_program::{ErrorKeeping, ReadFiles};
+use sqlite::{Alter, Connection};
+use std::io::{self, IsTerminal, Read, Write};
+use std::rt::Clock;
+use std::sync::Wait;
+use std::thread::Threads;
+
+/// A stream that keeps why it failed.
+pub trait KeepsError {
+    /// Returns the error of the call that failed, if one did.
+    fn error(&self) -> Option<&io::Error>;
+}
+
+impl<S> KeepsError for ErrorKeeping<S> {
+    fn error(&self) -> Option<&io::Error> {
+        ErrorKeeping::error(self)
+    }
+}
+
+/// The files and the standard streams of the program.
+pub trait Streams {
+    /// The files that are read or measured.
+    type Files: ReadFiles + Measures + Clock + Drop + Sync;
+
+    /// The standard input.
+    type Input: Read + KeepsError;
+
+    /// The standard output.
+    type Output: Write + IsTerminal + KeepsError;
+
+    /// The standard error.
+    type Errors: Write + IsTerminal + Drop + Send;
+}
+
+/// What the program runs on: its databases and its network, beside files and streams.
+pub trait Host: Streams {
+    /// What keeps the rows of an open database.
+    type Store: Alter + Drop + Send;
+
+    /// What opens and closes databases.
+    type Opener: DatabaseOpener<Connection<Self::Store>> + Drop;
+
+    /// The network. It starts threads, waits and reads the time too.
+    type Net: ServerNet + Threads + Wait + Clock + Copy + Drop + Send + Sync;
+}

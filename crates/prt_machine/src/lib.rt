@@ -1,0 +1,22 @@
+//! What the program needs of a machine: what opens its databases, its files, its network and its streams.
+#![tactic(auto)]
+
+mod cause;
+mod database_opener;
+mod databases;
+mod door;
+mod host;
+mod local;
+mod measures;
+mod opening;
+mod telling;
+
+pub use cause::Cause;
+pub use database_opener::{DatabaseOpener, Wanted};
+pub use databases::DatabaseFiles;
+pub use door::{Door, ServerNet, is_local};
+pub use host::{Host, KeepsError, Streams};
+pub use local::{LocalNet, Socket};
+pub use measures::Measures;
+pub use opening::{close_at, open_desk, open_publisher, report_unopened};
+pub use telling::tell;

@@ -1,8 +1,0 @@
-use Rattle.prt_desk.proofs.Kept.{found_is_stored}
-use Rattle.prt_questions.proofs.databases.DatabaseFilesDatabases.close.Goals as goal
-
-pub returns-in-Ok-clause-left : goal.returns-in-Ok-clause-left
-returns-in-Ok-clause-left g c = found_is_stored g.S.Store c.args.desk c.end.ensures.kept
-
-pub returns-in-Err-clause-left : goal.returns-in-Err-clause-left
-returns-in-Err-clause-left g c = found_is_stored g.S.Store c.args.desk c.end.ensures.kept
