@@ -22,4 +22,5 @@ address w = option_map address_of (octets_of w)
 
 -- four parts with dots between them
 abbrev pub addr_text : Addr → List ℕ
-addr_text addr = decimal (addr.0 / 2 ^ 24) ++ codes "." ++ decimal (addr.0 / 2 ^ 16 % 256) ++ codes "." ++ decimal (addr.0 / 2 ^ 8 % 256) ++ codes "." ++ decimal (addr.0 % 256)
+addr_text addr = decimal (addr.0 / 2 ^ 24) ++ codes "." ++ decimal (addr.0 / 2 ^ 16 % 256) ++ codes "." ++ decimal (addr.0 / 2 ^ 8 % 256)
+    ++ codes "." ++ decimal (addr.0 % 256)

@@ -5,7 +5,8 @@ use Rattle.prt_addr.specs.Decimal.{decimal_value, at_most, followed_by}
 
 -- `0` to `9`, `a` to `f` and `A` to `F`
 abbrev pub hex_digit_of : ℕ → Option ℕ
-hex_digit_of b = if nat_le 48 b && nat_le b 57 then Some (b - 48) else if nat_le 97 b && nat_le b 102 then Some (b - 97 + 10) else if nat_le 65 b && nat_le b 70 then Some (b - 65 + 10) else None
+hex_digit_of b = if nat_le 48 b && nat_le b 57 then Some (b - 48) else if nat_le 97 b && nat_le b 102 then Some (b - 97 + 10)
+    else if nat_le 65 b && nat_le b 70 then Some (b - 65 + 10) else None
 
 -- the number that one or more hexadecimal digits express, which may begin with 0
 abbrev pub hex_value : Word → Option ℕ

@@ -1,5 +1,6 @@
 -- Prefixes: reading, matching and text.
-use Rattle.std.specs.Prelude.{ℕ, ◌-◌, ◌/◌, ◌^◌, Bool, ◌&&◌, ◌==◌, nat_le, if◌then◌else◌, List, [], ◌∷◌, ◌++◌, Option, Some, None, Result, Ok, Err, option_and_then, option_map, codes, decimal}
+use Rattle.std.specs.Prelude.{ℕ, ◌-◌, ◌/◌, ◌^◌, Bool, ◌&&◌, ◌==◌, nat_le, if◌then◌else◌, List, [], ◌∷◌, ◌++◌, Option, Some, None, Result, Ok, Err}
+use Rattle.std.specs.Prelude.{option_and_then, option_map, codes, decimal}
 use Rattle.prt_addr.specs.Word.{Word, parts_at, is_one_of}
 use Rattle.prt_addr.specs.Decimal.{decimal_within}
 use Rattle.prt_addr.specs.Addr.{address, addr_text}

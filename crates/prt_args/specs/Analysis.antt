@@ -45,7 +45,8 @@ IsNamed matches (Script script) = ⊥
 
 -- both are given, or the word of `--server` names no place
 abbrev pub IsMisnamed : ArgMatches → Type 0
-IsMisnamed matches = ((is_some (value_of matches (codes "db")) && is_some (value_of matches (codes "server"))) ≡ true) ⊎ (option_map names_place (value_of matches (codes "server")) ≡ Some false)
+IsMisnamed matches = ((is_some (value_of matches (codes "db")) && is_some (value_of matches (codes "server"))) ≡ true)
+    ⊎ (option_map names_place (value_of matches (codes "server")) ≡ Some false)
 
 abbrev pub NoneIsNamed : ArgMatches → Type 0
 NoneIsNamed matches = (value_of matches (codes "db") ≡ None) × (value_of matches (codes "server") ≡ None)
@@ -91,4 +92,5 @@ shown_of true false = Some shown.Status
 shown_of true true = None
 
 abbrev pub IsShownBy : ArgMatches → Option Shown → Type 0
-IsShownBy matches shown = (tested rehearsed : Bool) → one_text (found_of matches) (codes "check") ≡ Some (text_of_flag tested) → one_text (found_of matches) (codes "impact") ≡ Some (text_of_flag rehearsed) → shown ≡ shown_of tested rehearsed
+IsShownBy matches shown = (tested rehearsed : Bool) → one_text (found_of matches) (codes "check") ≡ Some (text_of_flag tested) →
+    one_text (found_of matches) (codes "impact") ≡ Some (text_of_flag rehearsed) → shown ≡ shown_of tested rehearsed

@@ -26,7 +26,9 @@ abbrev pub file_rule : Rule
 file_rule = record (new_rule (codes "file")) { value_names = 1 }
 
 abbrev pub batch_line : App
-batch_line = with_rule (with_rule (with_rule (with_rule (with_rule (with_rule (new_app (codes "batch")) (flag_rule (codes "force"))) (flag_rule (codes "atomic"))) database_rule) (option_rule (codes "server"))) (flag_rule (codes "verbose"))) file_rule
+batch_line = with_rule (with_rule
+    (with_rule (with_rule (with_rule (with_rule (new_app (codes "batch")) (flag_rule (codes "force")))
+    (flag_rule (codes "atomic"))) database_rule) (option_rule (codes "server"))) (flag_rule (codes "verbose"))) file_rule
 
 abbrev pub check_line : App
 check_line = with_rule (new_app (codes "check")) file_rule
@@ -36,11 +38,13 @@ replay_line = with_rule (new_app (codes "replay")) file_rule
 
 -- with the places at which a server listens
 abbrev pub with_places : App → App
-with_places app = with_rule (with_rule (with_rule (with_rule app (option_rule (codes "listen"))) (option_rule (codes "atomic"))) (option_rule (codes "feed"))) (option_rule (codes "sockets"))
+with_places app = with_rule (with_rule (with_rule (with_rule app (option_rule (codes "listen"))) (option_rule (codes "atomic")))
+    (option_rule (codes "feed"))) (option_rule (codes "sockets"))
 
 -- with how much it serves
 abbrev pub with_limits : App → App
-with_limits app = with_rule (with_rule (with_rule app (number_rule (codes "workers") (codes "4"))) (number_rule (codes "sessions") (codes "0"))) (number_rule (codes "idle") (codes "0"))
+with_limits app = with_rule (with_rule (with_rule app (number_rule (codes "workers") (codes "4")))
+    (number_rule (codes "sessions") (codes "0"))) (number_rule (codes "idle") (codes "0"))
 
 abbrev pub serve_line : App
 serve_line = with_rule (with_limits (with_places (with_rule (new_app (codes "serve")) (needed_rule (codes "db"))))) (flag_rule (codes "log"))
@@ -78,7 +82,8 @@ repeated_rule name = record (option_rule name) { action = Some Append }
 
 -- with the words that say how far it reaches
 abbrev pub with_reach : App → App
-with_reach app = with_rule (with_rule (with_rule (with_rule app (flag_rule (codes "all"))) (repeated_rule (codes "table"))) (repeated_rule (codes "proto"))) (repeated_rule (codes "priority"))
+with_reach app = with_rule (with_rule (with_rule (with_rule app (flag_rule (codes "all"))) (repeated_rule (codes "table")))
+    (repeated_rule (codes "proto"))) (repeated_rule (codes "priority"))
 
 abbrev pub diff_line : App
 diff_line = with_rule (with_rule (with_rule (with_reach (place_line (codes "diff"))) (flag_rule (codes "check"))) (flag_rule (codes "impact"))) file_rule
@@ -98,7 +103,9 @@ import_line = with_rule (with_rule (new_app (codes "import")) (option_rule (code
 
 -- the words of `impact` and `assert` are the files
 abbrev pub impact_line : App
-impact_line = with_rule (with_rule (with_rule (with_rule (place_line (codes "impact")) (flag_rule (codes "json"))) (flag_rule (codes "exact"))) (flag_rule (codes "force"))) words_rule
+impact_line = with_rule (with_rule
+    (with_rule (with_rule (place_line (codes "impact")) (flag_rule (codes "json"))) (flag_rule (codes "exact")))
+    (flag_rule (codes "force"))) words_rule
 
 abbrev pub assert_line : App
 assert_line = with_rule (with_rule (place_line (codes "assert")) (flag_rule (codes "explain"))) words_rule
@@ -108,7 +115,9 @@ unused_line = with_rule (place_line (codes "unused")) file_rule
 
 -- the tables are those of `--db`, or those of `--server` and `--atomic`
 abbrev pub apply_line : App
-apply_line = with_rule (with_rule (with_rule (with_rule (place_line (codes "apply")) (option_rule (codes "atomic"))) (flag_rule (codes "dry-run"))) (flag_rule (codes "impact"))) file_rule
+apply_line = with_rule (with_rule
+    (with_rule (with_rule (place_line (codes "apply")) (option_rule (codes "atomic"))) (flag_rule (codes "dry-run")))
+    (flag_rule (codes "impact"))) file_rule
 
 abbrev pub status_line : App
 status_line = with_rule (with_rule (server_line (codes "status")) (flag_rule (codes "json"))) (flag_rule (codes "metrics"))
@@ -118,7 +127,11 @@ opening_line = on_top (λ top. record top { subcommand_required = true; arg_requ
 
 -- with the subcommands that ask questions
 abbrev pub with_questions : App → App
-with_questions app = with_subcommand (with_subcommand (with_subcommand (with_subcommand (with_subcommand (with_subcommand (with_subcommand (with_subcommand app get_line.top) show_line.top) explain_line.top) dump_line.top) diff_line.top) follow_line.top) wait_line.top) import_line.top
+with_questions app = with_subcommand
+    (with_subcommand (with_subcommand
+    (with_subcommand (with_subcommand
+    (with_subcommand (with_subcommand
+    (with_subcommand app get_line.top) show_line.top) explain_line.top) dump_line.top) diff_line.top) follow_line.top) wait_line.top) import_line.top
 
 -- with those that analyse where packets go
 abbrev pub with_analyses : App → App
@@ -129,7 +142,9 @@ abbrev pub with_services : App → App
 with_services app = with_subcommand (with_subcommand app apply_line.top) status_line.top
 
 abbrev pub command_line : App
-command_line = with_services (with_analyses (with_questions (with_subcommand (with_subcommand (with_subcommand (with_subcommand opening_line batch_line.top) check_line.top) replay_line.top) serve_line.top)))
+command_line = with_services (with_analyses
+    (with_questions (with_subcommand
+    (with_subcommand (with_subcommand (with_subcommand opening_line batch_line.top) check_line.top) replay_line.top) serve_line.top)))
 
 -- whether an argument of the command is one of its subcommands too
 abbrev pub has_globals : Command → Bool

@@ -1,6 +1,10 @@
--- What the words after the program's name ask for: `batch [--force | --atomic] [--db PATH] [--verbose] [FILE]`, `batch --atomic --server WHERE [--verbose] [FILE]`, `check [FILE]`, `replay [FILE]`, `serve` and `dump` with their options, the version, or help.
--- Options and operands are distinguished as POSIX.1 does (Base Definitions, section 12.2, guidelines 4, 10 and 13), but options may follow operands, and `--db=PATH` is `--db PATH`.
-use Rattle.std.specs.Prelude.{ℕ, ◌==◌, ◌||◌, Bool, true, false, List, [], ◌∷◌, Option, Some, None, is_some, if◌then◌else◌, map, drop, codes, option_and_then, slice_get, chars, bytes_eq, String, string_bytes}
+-- What the words after the program's name ask for: `batch [--force | --atomic] [--db PATH] [--verbose] [FILE]`, `batch --atomic
+-- --server WHERE [--verbose] [FILE]`, `check [FILE]`, `replay [FILE]`, `serve` and `dump` with their options, the version, or
+-- help.
+-- Options and operands are distinguished as POSIX.1 does (Base Definitions, section 12.2, guidelines 4, 10 and 13), but options
+-- may follow operands, and `--db=PATH` is `--db PATH`.
+use Rattle.std.specs.Prelude.{ℕ, ◌==◌, ◌||◌, Bool, true, false, List, [], ◌∷◌, Option, Some, None, is_some, if◌then◌else◌, map, drop, codes}
+use Rattle.std.specs.Prelude.{option_and_then, slice_get, chars, bytes_eq, String, string_bytes}
 use Rattle.std.specs.List.{before_first, after_first, list_any}
 use Rattle.std.specs.Option.{option_map_or}
 use Rattle.prt_addr.specs.Word.{Word}
@@ -36,7 +40,8 @@ pub data Invocation : Type 0 where
   replay : Option Word → Invocation
   -- the word `serve` and those after it: sessions over TCP, help on that, or bad words
   serve : List Word → Invocation
-  -- the word of a question and those after it: what tables say, what differs from them or is imported, whether a server answers, what an analysis finds, what a server does, or what tables are made, help on that, or bad words
+  -- the word of a question and those after it: what tables say, what differs from them or is imported, whether a server answers,
+  -- what an analysis finds, what a server does, or what tables are made, help on that, or bad words
   ask : List Word → Invocation
   help : Invocation
   -- the version, and the formats of database file that are read
@@ -256,7 +261,13 @@ is_service word = bytes_eq word (codes "apply") || bytes_eq word (codes "status"
 
 -- `get`, `show`, `explain`, `dump`, `diff`, `follow`, `wait`, `import` and these
 abbrev pub is_question : Word → Bool
-is_question word = bytes_eq word (codes "get") || (bytes_eq word (codes "show") || (bytes_eq word (codes "explain") || (bytes_eq word (codes "dump") || (bytes_eq word (codes "diff") || (bytes_eq word (codes "follow") || (bytes_eq word (codes "wait") || (bytes_eq word (codes "import") || (is_analysis word || is_service word))))))))
+is_question word = bytes_eq word (codes "get")
+    || (bytes_eq word (codes "show")
+    || (bytes_eq word (codes "explain")
+    || (bytes_eq word (codes "dump")
+    || (bytes_eq word (codes "diff")
+    || (bytes_eq word (codes "follow")
+    || (bytes_eq word (codes "wait") || (bytes_eq word (codes "import") || (is_analysis word || is_service word))))))))
 
 -- what they ask for
 abbrev pub invocation : List Word → Invocation

@@ -27,7 +27,8 @@ port = number_within 0 65535
 
 -- an address as in a command, `:` and a port
 abbrev pub address_and_port : Word → Option (Addr × ℕ)
-address_and_port word = option_and_then (λ address. option_map (λ port. (address, port)) (port (after_first is_colon word))) (address (before_first is_colon word))
+address_and_port word = option_and_then (λ address. option_map (λ port. (address, port)) (port (after_first is_colon word)))
+    (address (before_first is_colon word))
 
 -- the address and the port of a place
 abbrev pub ends_of : SocketAddrV4 → Addr × ℕ

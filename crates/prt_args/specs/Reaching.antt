@@ -1,5 +1,6 @@
 -- How far the words of `diff` and `follow` reach: tables, protocols and priorities of the kernel's rules and routes.
-use Rattle.std.specs.Prelude.{◌≡◌, ◌≤◌, ◌==◌, ◌&&◌, ℕ, nat_le, All, Bool, Option, if◌then◌else◌, length, map, option_and_then, option_map, unwrap_or, List, [], Some, codes, false, true}
+use Rattle.std.specs.Prelude.{◌≡◌, ◌≤◌, ◌==◌, ◌&&◌, ℕ, nat_le, All, Bool, Option, if◌then◌else◌, length, map, option_and_then, option_map, unwrap_or}
+use Rattle.std.specs.Prelude.{List, [], Some, codes, false, true}
 use Rattle.std.specs.List.{before_first, after_first, list_any}
 use Rattle.clap.specs.Matches.{found_of, matched_of, one_text, raw_values}
 use Rattle.clap.specs.declared.parser.matches.ArgMatches.{ArgMatches}
@@ -28,7 +29,9 @@ end_of ends.Priorities word = number word
 
 -- `N-N` is a span from the first to the last one, and `N` is that one alone
 abbrev pub span_of : Ends → Word → Option NumberSpan
-span_of of word = option_and_then (λ first. option_map (λ last. record { first = first; last = last }) (keep (λ last. nat_le first last) (end_of of (last_end word)))) (end_of of (before_first is_hyphen word))
+span_of of word = option_and_then
+    (λ first. option_map (λ last. record { first = first; last = last }) (keep (λ last. nat_le first last) (end_of of (last_end word))))
+    (end_of of (before_first is_hyphen word))
 
 -- all values that the words of a question have for an option
 abbrev pub values_of : ArgMatches → Word → List Word

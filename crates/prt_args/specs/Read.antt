@@ -1,10 +1,12 @@
 -- What the words of `serve` and of a question say: the values that a parse gives their options and operands are those of the task.
-use Rattle.std.specs.Prelude.{◌≡◌, ◌≢◌, ◌⊎◌, ◌++◌, ℕ, Bool, true, false, List, [], ◌∷◌, Option, None, Some, bytes_eq, codes, if◌then◌else◌, option_and_then, option_map}
+use Rattle.std.specs.Prelude.{◌≡◌, ◌≢◌, ◌⊎◌, ◌++◌, ℕ, Bool, true, false, List, [], ◌∷◌, Option, None, Some, bytes_eq, codes, if◌then◌else◌}
+use Rattle.std.specs.Prelude.{option_and_then, option_map}
 use Rattle.clap.specs.Words.{fault_of, found_of, rows_of, subcommand_of}
 use Rattle.clap.specs.declared.parser.matches.ArgMatches.{ArgMatches}
 use Rattle.prt_addr.specs.Word.{Word}
 use Rattle.prt_refusals.specs.declared.refusal.Refusal.TheVariants.{NoMemory}
-use Rattle.prt_args.specs.Analysis.{AreNamed, IsFlag, IsNamed, IsNoPlaceBy, IsPlaceBy, IsServerBy, IsSearched, IsShownBy, NoneIsNamed, exactness_of, form_of, on_refusal_of, value_of}
+use Rattle.prt_args.specs.Analysis.{AreNamed, IsFlag, IsNamed, IsNoPlaceBy, IsPlaceBy, IsServerBy, IsSearched, IsShownBy, NoneIsNamed, exactness_of}
+use Rattle.prt_args.specs.Analysis.{form_of, on_refusal_of, value_of}
 use Rattle.prt_args.specs.Asking.{name_of_asked, name_of_word}
 use Rattle.prt_args.specs.CommandLine.{command_line}
 use Rattle.prt_args.specs.Invocation.{file_of, invocation, serve}
@@ -50,7 +52,9 @@ line_of _ words = codes "route get" ++ spaced words
 
 -- the tables, and the words that ask: the first operand of `explain` is the script if neither `--db` nor `--server` names tables
 abbrev pub IsSourceBy : ArgMatches → (queried : Verb) → (operands : List Word) → Source → (words : List Word) → Type 0
-IsSourceBy matches queried operands (Script script) words = (queried ≡ verb.Explain) × NoneIsNamed matches × (first : Word) × (operands ≡ first ∷ words) × (option_map (λ path. path.now) script ≡ file_of first)
+IsSourceBy matches queried operands (Script script) words =
+    (queried ≡ verb.Explain) × NoneIsNamed matches × (first : Word) × (operands ≡ first ∷ words)
+    × (option_map (λ path. path.now) script ≡ file_of first)
 IsSourceBy matches queried operands source words = IsNamed matches source × (words ≡ operands)
 
 abbrev pub labels_of : Bool → Labels
@@ -86,9 +90,11 @@ IsFileBy matches file = file ≡ option_and_then file_of (value_of matches (code
 abbrev pub IsAskedBy : ArgMatches → Asked → Type 0
 IsAskedBy matches (asked.Tables asking) = IsAskingBy matches asking
 IsAskedBy matches (asked.Diff diffing) =
-    IsNamed matches diffing.source × IsReachBy matches diffing.reach × IsFileBy matches (option_map (λ path. path.now) diffing.file) × IsShownBy matches (Some diffing.shown)
+    IsNamed matches diffing.source × IsReachBy matches diffing.reach × IsFileBy matches (option_map (λ path. path.now) diffing.file)
+    × IsShownBy matches (Some diffing.shown)
 IsAskedBy matches (asked.Follow following) =
-    IsServerBy matches following.server × IsReachBy matches following.reach × IsFileBy matches (option_map (λ path. path.now) following.file) × IsFlag matches (codes "once") (λ given. given) following.is_once
+    IsServerBy matches following.server × IsReachBy matches following.reach
+    × IsFileBy matches (option_map (λ path. path.now) following.file) × IsFlag matches (codes "once") (λ given. given) following.is_once
 IsAskedBy matches (asked.Wait waiting) =
     IsServerBy matches waiting.server × (option_and_then (number_within 0 1000000) (value_of matches (codes "seconds")) ≡ Some waiting.seconds)
 IsAskedBy matches (asked.Import importing) =

@@ -20,7 +20,8 @@ status_form_of false true = Some Metrics
 status_form_of true true = None
 
 abbrev pub IsStatusFormBy : ArgMatches → Option StatusForm → Type 0
-IsStatusFormBy matches form = (json metrics : Bool) → one_text (found_of matches) (codes "json") ≡ Some (text_of_flag json) → one_text (found_of matches) (codes "metrics") ≡ Some (text_of_flag metrics) → form ≡ status_form_of json metrics
+IsStatusFormBy matches form = (json metrics : Bool) → one_text (found_of matches) (codes "json") ≡ Some (text_of_flag json) →
+    one_text (found_of matches) (codes "metrics") ≡ Some (text_of_flag metrics) → form ≡ status_form_of json metrics
 
 -- a folder that tells tables takes the changes too; beside an address, the place that `--atomic` names does, if any
 abbrev pub IsAtomicBy : ArgMatches → (feed : ServerPlace) → (atomic : Option ServerPlace) → Type 0

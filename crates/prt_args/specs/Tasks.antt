@@ -34,7 +34,8 @@ text_of_flag false = codes "false"
 
 -- how a script's lines are executed by what a parse has for `--force` and `--atomic`; no way for both
 abbrev pub IsModeBy : (force atomic : Option Text) → Option Mode → Type 0
-IsModeBy force atomic mode = (forced together : Bool) → force ≡ Some (text_of_flag forced) → atomic ≡ Some (text_of_flag together) → mode ≡ mode_of forced together
+IsModeBy force atomic mode = (forced together : Bool) → force ≡ Some (text_of_flag forced) → atomic ≡ Some (text_of_flag together) →
+    mode ≡ mode_of forced together
 
 -- how those of the script that a parse found are executed
 abbrev pub IsModeOf : Option (Text × List Row) → Option Mode → Type 0
@@ -49,7 +50,8 @@ abbrev pub IsConflict : Option (Text × List Row) → Type 0
 IsConflict found =
     (subcommand_name found ≢ Some (codes "check"))
     × (subcommand_name found ≢ Some (codes "replay"))
-    × (IsModeOf found None ⊎ ((mode : Mode) × (server : Text) × IsModeOf found (Some mode) × (named_server found ≡ Some server) × IsUnfit mode (named_database found) server))
+    × (IsModeOf found None ⊎ ((mode : Mode) × (server : Text) × IsModeOf found (Some mode) × (named_server found ≡ Some server)
+    × IsUnfit mode (named_database found) server))
 
 -- the subcommand of this name asks a question
 abbrev pub asks_question : Option Text → Bool

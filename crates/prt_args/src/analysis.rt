@@ -71,7 +71,8 @@ fn two_paths<'a>(
     script: &'a str,
     file: &'a str,
 ) -> Result<(Option<&'a str>, Option<&'a str>), BadQuestion>
-    ensures paths { IfOk result (λ paths. (option_map (λ path. path.now) paths.0 ≡ file_of script.entry.now) × (option_map (λ path. path.now) paths.1 ≡ file_of file.entry.now)) }
+    ensures paths { IfOk result (λ paths.
+        (option_map (λ path. path.now) paths.0 ≡ file_of script.entry.now) × (option_map (λ path. path.now) paths.1 ≡ file_of file.entry.now)) }
     ensures one_input { IfOk result (λ paths. (is_some paths.0 || is_some paths.1) ≡ true) }
     ensures refused { IfErr result (λ bad. (file_of script.entry.now ≡ None) × (file_of file.entry.now ≡ None)) }
 {

@@ -539,9 +539,14 @@ pub(crate) fn asked_in<'a>(
 ) -> Result<Option<Asked<'a>>, Fault>
     ensures asked { IfOk result (λ asked. is_some asked ≡ asks_question (subcommand_name_of matches.now)) }
     ensures word { IfOk result (λ asked. IfSome asked (λ asked. subcommand_name_of matches.now ≡ Some (name_of_asked asked))) }
-    ensures reads { IfOk result (λ asked. IfSome asked (λ asked. (found : ArgMatches) × (subcommand_rows_of matches.now ≡ Some (name_of_asked asked, rows_of (found_of found))) × IsAskedBy found asked)) }
+    ensures reads { IfOk result (λ asked.
+        IfSome asked (λ asked. (found : ArgMatches)
+        × (subcommand_rows_of matches.now ≡ Some (name_of_asked asked, rows_of (found_of found))) × IsAskedBy found asked)) }
     ensures limits { IfOk result (λ asked. IfSome asked IsAsked) }
-    ensures refused { IfErr result (λ fault. (fault ≡ Opening NoMemory) ⊎ ((word : QuestionWord) × (found : ArgMatches) × (subcommand_rows_of matches.now ≡ Some (name_of_word word, rows_of (found_of found))) × IsNoQuestion word found)) }
+    ensures refused { IfErr result
+        (λ fault. (fault ≡ Opening NoMemory)
+        ⊎ ((word : QuestionWord) × (found : ArgMatches)
+        × (subcommand_rows_of matches.now ≡ Some (name_of_word word, rows_of (found_of found))) × IsNoQuestion word found)) }
     ensures fault { IfErr result (λ fault. (asks_question (subcommand_name_of matches.now) ≡ true) × IsWordsFault usage_error fault) }
 {
     let Some((name, found)) = matches.subcommand() else {

@@ -1,7 +1,9 @@
 //! The words that the program knows, as clap reads them.
 ghost use Rattle.std.specs.Prelude.{◌≡◌, IfOk, false};
 ghost use Rattle.clap.specs.Words.{App, Rule, app_of, rule_of, with_rule, with_subcommand};
-ghost use Rattle.prt_args.specs.CommandLine.{batch_line, check_line, command_line, database_rule, diff_line, dump_line, explain_line, file_rule, flag_rule, get_line, has_globals, import_line, needed_rule, number_rule, opening_line, option_rule, place_line, question_line, replay_line, show_line, tables_line, with_questions, words_rule};
+ghost use Rattle.prt_args.specs.CommandLine.{batch_line, check_line, command_line, database_rule, diff_line, dump_line, explain_line, file_rule};
+ghost use Rattle.prt_args.specs.CommandLine.{flag_rule, get_line, has_globals, import_line, needed_rule, number_rule, opening_line, option_rule};
+ghost use Rattle.prt_args.specs.CommandLine.{place_line, question_line, replay_line, show_line, tables_line, with_questions, words_rule};
 
 use crate::analysis_lines::with_analyses;
 use crate::reach_lines::{follow_line, wait_line, with_reach};
@@ -83,7 +85,8 @@ pub(crate) fn with_argument<'a>(
     command: Result<Command<'a>, AllocError>,
     argument: Arg<'a>,
 ) -> Result<Command<'a>, AllocError>
-    ensures line { (app : App) → (rule : Rule) → IfOk command.entry (λ command. app_of command ≡ app) → rule_of argument.entry ≡ rule → argument.entry.global ≡ false → IfOk result (λ made. app_of made ≡ with_rule app rule) }
+    ensures line { (app : App) → (rule : Rule) → IfOk command.entry (λ command. app_of command ≡ app) → rule_of argument.entry ≡ rule →
+        argument.entry.global ≡ false → IfOk result (λ made. app_of made ≡ with_rule app rule) }
     ensures own { IfOk command.entry (λ command. has_globals command ≡ false) → argument.entry.global ≡ false → IfOk result (λ made. has_globals made ≡ false) }
 {
     command?.arg(argument)
@@ -94,7 +97,9 @@ pub(crate) fn with_line<'a>(
     command: Result<Command<'a>, AllocError>,
     line: Result<Command<'a>, AllocError>,
 ) -> Result<Command<'a>, AllocError>
-    ensures { (app : App) → (added : App) → IfOk command.entry (λ command. app_of command ≡ app) → IfOk line.entry (λ line. app_of line ≡ added) → IfOk line.entry (λ line. has_globals line ≡ false) → IfOk result (λ made. app_of made ≡ with_subcommand app added.top) }
+    ensures { (app : App) → (added : App) → IfOk command.entry (λ command. app_of command ≡ app) →
+        IfOk line.entry (λ line. app_of line ≡ added) → IfOk line.entry (λ line. has_globals line ≡ false) →
+        IfOk result (λ made. app_of made ≡ with_subcommand app added.top) }
 {
     command?.subcommand(line?)
 }

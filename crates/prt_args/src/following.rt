@@ -96,7 +96,8 @@ pub(crate) fn wait_args_of<'a>(matches: &ArgMatches<'a>) -> Result<WaitArgs<'a>,
     ensures limits { IfOk result (λ waiting. waiting.seconds ≤ 1000000) }
     ensures server { IfOk result (λ waiting. IsServerBy matches.now waiting.server) }
     ensures seconds { IfOk result (λ waiting. option_and_then (number_within 0 1000000) (value_of matches.now (codes "seconds")) ≡ Some waiting.seconds) }
-    ensures refused { IfErr result (λ bad. IsNoServer matches.now ⊎ (option_and_then (number_within 0 1000000) (value_of matches.now (codes "seconds")) ≡ None)) }
+    ensures refused { IfErr result
+        (λ bad. IsNoServer matches.now ⊎ (option_and_then (number_within 0 1000000) (value_of matches.now (codes "seconds")) ≡ None)) }
 {
     let server = server_in(matches)?;
     let Some(seconds) = number_in(matches, "seconds", 0, 1_000_000) else {

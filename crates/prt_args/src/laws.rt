@@ -8,5 +8,6 @@ ghost use Rattle.prt_args.specs.declared.asking.Asked.{Asked};
 
 /// No question is asked by matches by which nothing can be asked, if the parse gave a text to each flag of the subcommand.
 pub fn nothing_is_asked()
-    ensures { (matches : ArgMatches) (asked : Asked) → HasTexts (word_of asked) matches → IsAskedBy matches asked → IsAsked asked → IsNoQuestion (word_of asked) matches → ⊥ }
+    ensures { (matches : ArgMatches) (asked : Asked) → HasTexts (word_of asked) matches → IsAskedBy matches asked → IsAsked asked →
+        IsNoQuestion (word_of asked) matches → ⊥ }
 {}

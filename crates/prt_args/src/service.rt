@@ -140,7 +140,8 @@ pub(crate) fn apply_args_of<'a>(matches: &ArgMatches<'a>) -> Result<ApplyArgs<'a
     ensures file { IfOk result (λ applying. IsFileBy matches.now (option_map (λ path. path.now) applying.file)) }
     ensures dry_run { IfOk result (λ applying. IsFlag matches.now (codes "dry-run") (λ given. given) applying.is_dry_run) }
     ensures impact { IfOk result (λ applying. IsFlag matches.now (codes "impact") (λ given. given) applying.has_impact) }
-    ensures refused { IfErr result (λ bad. (is_dry_run : Bool) × IsFlag matches.now (codes "dry-run") (λ given. given) is_dry_run × IsNoTarget matches.now is_dry_run) }
+    ensures refused { IfErr result
+        (λ bad. (is_dry_run : Bool) × IsFlag matches.now (codes "dry-run") (λ given. given) is_dry_run × IsNoTarget matches.now is_dry_run) }
 {
     let is_dry_run = matches.get_flag("dry-run");
     Ok(ApplyArgs {

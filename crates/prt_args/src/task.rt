@@ -136,8 +136,11 @@ fn has_flag(matches: &ArgMatches<'_>, name: &str) -> bool
 ///
 /// `Words` if the matches have both flags, `Opening` with `NoMemory` if memory is refused.
 fn mode_in(alloc: Global, matches: &ArgMatches<'_>) -> Result<Mode, Fault>
-    ensures mode { IfOk result (λ mode. IsModeBy (one_of (codes "force") (rows_of (found_of matches.now))) (one_of (codes "atomic") (rows_of (found_of matches.now))) (Some mode)) }
-    ensures conflict { IfErr result (λ fault. IsModeBy (one_of (codes "force") (rows_of (found_of matches.now))) (one_of (codes "atomic") (rows_of (found_of matches.now))) None) }
+    ensures mode { IfOk result (λ mode.
+        IsModeBy (one_of (codes "force") (rows_of (found_of matches.now))) (one_of (codes "atomic") (rows_of (found_of matches.now))) (Some mode)) }
+    ensures conflict { IfErr result
+        (λ fault. IsModeBy (one_of (codes "force") (rows_of (found_of matches.now)))
+        (one_of (codes "atomic") (rows_of (found_of matches.now))) None) }
     ensures fault { IfErr result (IsWordsFault usage_error) }
 {
     let is_forced = has_flag(matches, "force");

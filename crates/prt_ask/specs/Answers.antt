@@ -31,7 +31,8 @@ query_json (RouteShow selector) state = routes_json state selector
 query_json RuleShow state = rules_json state
 query_json (Get packet) state = answer_json state packet
 
--- of a dump the lines that recreate the state, or all tables, or the lines that put it in the place of another; of an explanation the reasons and the answer; of a difference what brings the found state to this one within a fence
+-- of a dump the lines that recreate the state, or all tables, or the lines that put it in the place of another; of an explanation
+-- the reasons and the answer; of a difference what brings the found state to this one within a fence
 abbrev pub answer : Question → State → List ℕ
 answer (questions.Dump Lines) state = dump_text state
 answer (questions.Dump InJson) state = json_line (tables_json state)
@@ -63,7 +64,8 @@ IsNotAnswered question state reason = reason ≡ NoMemory
 
 -- nothing
 abbrev pub AreNone : Notes → Type 0
-AreNone notes = (notes.early.items ≡ []) × (notes.moved.items ≡ []) × (notes.left.items ≡ []) × (is_nothing_held notes.held ≡ true) × (notes.outside.rules ≡ 0) × (notes.outside.routes ≡ 0)
+AreNone notes = (notes.early.items ≡ []) × (notes.moved.items ≡ []) × (notes.left.items ≡ []) × (is_nothing_held notes.held ≡ true)
+    × (notes.outside.rules ≡ 0) × (notes.outside.routes ≡ 0)
 
 -- the rules that the lines of a difference delete early, move or leave, what is held back, and how much the tables have outside the fence
 abbrev pub AreNotesOf : Fence → State → State → Notes → Type 0
@@ -81,7 +83,9 @@ is_whole_change notes = length notes.left.items == 0 && is_nothing_held notes.he
 
 -- of lines that put a state back: the rules and routes that are left out
 abbrev pub AreNotesOfReplacing : State → Notes → Type 0
-AreNotesOfReplacing state notes = (notes.early.items ≡ []) × (notes.moved.items ≡ []) × (notes.left.items ≡ []) × AreLeftOut state notes.held × (notes.outside.rules ≡ 0) × (notes.outside.routes ≡ 0)
+AreNotesOfReplacing state notes =
+    (notes.early.items ≡ []) × (notes.moved.items ≡ []) × (notes.left.items ≡ []) × AreLeftOut state notes.held × (notes.outside.rules ≡ 0)
+    × (notes.outside.routes ≡ 0)
 
 -- what is reported of an answer
 abbrev pub AreNotes : Question → State → Notes → Type 0

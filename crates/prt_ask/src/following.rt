@@ -52,7 +52,8 @@ fn write_lines<W: Write, E: Write>(
     errors: &mut E,
 ) -> Result<(), FollowEnd>
     ensures { MatchResult result (λ _. Follows mirror.old mirror.new (change.now ∷ []) true (W.contents output.old) (W.contents output.new))
-        (λ end. (changes : List Change) × AreAtMost change.now changes × Follows mirror.old mirror.new changes (is_whole end) (W.contents output.old) (W.contents output.new)) }
+        (λ end. (changes : List Change) × AreAtMost change.now changes
+        × Follows mirror.old mirror.new changes (is_whole end) (W.contents output.old) (W.contents output.new)) }
 {
     let answer = match mirror.follow(alloc, change) {
         Ok(answer) => answer,
@@ -79,7 +80,8 @@ pub fn follow<R: Read, W: Write, E: Write>(
     output: &mut W,
     errors: &mut E,
 ) -> FollowEnd
-    ensures { (changes : List Change) × (read : Option (List ℕ)) × AreRead (R.remaining reader.old) read changes × Follows mirror.old mirror.new changes (is_whole result) (W.contents output.old) (W.contents output.new) }
+    ensures { (changes : List Change) × (read : Option (List ℕ)) × AreRead (R.remaining reader.old) read changes
+        × Follows mirror.old mirror.new changes (is_whole result) (W.contents output.old) (W.contents output.new) }
 {
     for _line in 0..u64::MAX {
         let change = match read_change(reader) {

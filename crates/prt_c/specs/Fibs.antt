@@ -56,7 +56,8 @@ PutsTable before (Err reason) after result = (result ≡ code_of reason) × (aft
 abbrev pub IsNewTable : Option State → PacketC → Option FibOwner → Option FibOwner → ℕ → Type 0
 IsNewTable None packet before after result = (result ≡ EMPTY) × (after ≡ before)
 IsNewTable (Some state) packet before after result =
-    ((result ≡ DONE) × IsCompiled state packet (held_table after)) ⊎ ((reason : Refusal) × (result ≡ code_of reason) × (after ≡ before) × IsUncompiled state packet reason)
+    ((result ≡ DONE) × IsCompiled state packet (held_table after))
+    ⊎ ((reason : Refusal) × (result ≡ code_of reason) × (after ≡ before) × IsUncompiled state packet reason)
 
 -- one owner more of the same table
 abbrev pub IsShared : Option Table → Option FibOwner → Option FibOwner → ℕ → Type 0

@@ -2,7 +2,8 @@
 ghost use Rattle.std.specs.Prelude.{◌≡◌, IfErr, IfOk, None, Some};
 ghost use Rattle.std.specs.List.{slice_get};
 ghost use Rattle.prt_refusals.specs.declared.refusal.Refusal.TheVariants.{NoMemory};
-ghost use Rattle.prt_c.specs.Fibs.{AreAllIn, AreNumbered, IsAnswerOf, IsCompiled, IsNewTable, IsNumbered, IsOutcomeOf, IsShared, IsUncompiled, PutsTable, WritesOutcome, held_table};
+ghost use Rattle.prt_c.specs.Fibs.{AreAllIn, AreNumbered, IsAnswerOf, IsCompiled, IsNewTable, IsNumbered, IsOutcomeOf, IsShared, IsUncompiled};
+ghost use Rattle.prt_c.specs.Fibs.{PutsTable, WritesOutcome, held_table};
 ghost use Rattle.prt_c.specs.States.{held_state};
 
 use crate::answer::{AnswerC, write_answer};

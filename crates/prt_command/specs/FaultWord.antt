@@ -1,5 +1,6 @@
 -- The word that the first fault of a line is about.
-use Rattle.std.specs.Prelude.{◌≡◌, ℕ, ◌≤◌, ◌-◌, ◌||◌, Bool, true, false, if◌then◌else◌, List, [], ◌∷◌, length, take, drop, Option, Some, None, Result, Ok, Err, codes}
+use Rattle.std.specs.Prelude.{◌≡◌, ℕ, ◌≤◌, ◌-◌, ◌||◌, Bool, true, false, if◌then◌else◌, List, [], ◌∷◌, length, take, drop, Option, Some, None}
+use Rattle.std.specs.Prelude.{Result, Ok, Err, codes}
 use Rattle.prt_addr.specs.Word.{Word}
 use Rattle.prt_refusals.specs.declared.refusal.Refusal.{Refusal}
 use Rattle.prt_command.specs.Grammar.{ItemPlace, FirstFault, IsFault, further}
@@ -24,7 +25,8 @@ use Rattle.prt_command.specs.declared.verb.ObjectVerb.{ObjectVerb}
 -- ---- in the words of the grammar
 
 -- The words from the one on that the fault of an item is about: it is the item's first, or one behind words that something had to follow.
-abbrev pub about : {line : LineKind} → {given : Items} → {place : ItemPlace} → {fault : Refusal} → (w : Word) → (ws : List Word) → IsFault line given place w ws fault → List Word
+abbrev pub about : {line : LineKind} → {given : Items} → {place : ItemPlace} → {fault : Refusal} → (w : Word) → (ws : List Word) →
+    IsFault line given place w ws fault → List Word
 about w ws (further place next w2 v vs slot fault is new more) = about v vs more
 about w ws other = w ∷ ws
 
@@ -37,9 +39,11 @@ pub data IsAbout (ws : List Word) : List Word → Type 0 where
   -- The word where an object has to come is none,
   of_object : (w : Word) (rest : List Word) → from_object ws ≡ w ∷ rest → object_of w ≡ None → IsAbout ws (w ∷ rest)
   -- or the word after an object is none of its verbs,
-  of_verb : (o w : Word) (rest : List Word) (object : Object) → from_object ws ≡ o ∷ w ∷ rest → object_of o ≡ Some object → verb_of object w ≡ None → IsAbout ws (w ∷ rest)
+  of_verb : (o w : Word) (rest : List Word) (object : Object) → from_object ws ≡ o ∷ w ∷ rest → object_of o ≡ Some object →
+      verb_of object w ≡ None → IsAbout ws (w ∷ rest)
   -- or an item has a fault.
-  of_item : (o v : Word) (rest : List Word) (object : Object) (verb : ObjectVerb) (fault : Refusal) → from_object ws ≡ o ∷ v ∷ rest → object_of o ≡ Some object → verb_of object v ≡ Some verb
+  of_item : (o v : Word) (rest : List Word) (object : Object) (verb : ObjectVerb) (fault : Refusal) → from_object ws ≡ o ∷ v ∷ rest →
+      object_of o ≡ Some object → verb_of object v ≡ Some verb
       → (found : FirstFault (meaning_of verb).line no_items rest fault) → IsAbout ws (about found.w found.rest found.first)
 
 -- ---- as a function

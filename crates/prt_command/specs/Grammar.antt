@@ -14,7 +14,8 @@ use Rattle.prt_command.specs.declared.item.Slot.{Slot}
 
 -- ---- words at their places
 
--- Where a word is: at the start of an item, after `to`, or where the value of an item has to come. The value comes after the word before its prefix if there is one.
+-- Where a word is: at the start of an item, after `to`, or where the value of an item has to come. The value comes after the word
+-- before its prefix if there is one.
 pub data ItemPlace : Type 0 where
   start : ItemPlace
   after_to : Slot → ItemPlace
@@ -32,7 +33,8 @@ pub data MustBeFollowed (line : LineKind) (w : Word) (slot : Slot) : ItemPlace �
   -- `to`
   to_word : line.plain ≡ Some slot → word_in line.entries w ≡ None → is_to w ≡ true → MustBeFollowed line w slot start (after_to slot)
   -- a kind, `root`, `match` or `exact`
-  before_prefix : (place : ItemPlace) (b : PrefixWord) → IsPlain line w slot place → prefix_word slot w ≡ Some b → MustBeFollowed line w slot place (at_value slot (Some b))
+  before_prefix : (place : ItemPlace) (b : PrefixWord) → IsPlain line w slot place → prefix_word slot w ≡ Some b →
+      MustBeFollowed line w slot place (at_value slot (Some b))
 
 -- The word w, at this place, is taken as the value of this item, after the word b before its prefix if there is one.
 pub data IsValue (line : LineKind) (w : Word) (slot : Slot) : ItemPlace → Option PrefixWord → Type 0 where
@@ -48,14 +50,17 @@ pub data IsItem (line : LineKind) : ItemPlace → Word → List Word → Item �
   -- a word that says the item alone
   alone : (w : Word) (x : Item) → word_in line.entries w ≡ Some (Alone x) → IsItem line start w [] x
   -- a value
-  valued : (place : ItemPlace) (w : Word) (slot : Slot) (b : Option PrefixWord) (x : Item) → IsValue line w slot place b → value slot b w ≡ Ok x → IsItem line place w [] x
+  valued : (place : ItemPlace) (w : Word) (slot : Slot) (b : Option PrefixWord) (x : Item) → IsValue line w slot place b →
+      value slot b w ≡ Ok x → IsItem line place w [] x
   -- a word that something must follow, and what follows
-  followed : (place next : ItemPlace) (w v : Word) (own : List Word) (slot : Slot) (x : Item) → MustBeFollowed line w slot place next → IsItem line next v own x → IsItem line place w (v ∷ own) x
+  followed : (place next : ItemPlace) (w v : Word) (own : List Word) (slot : Slot) (x : Item) → MustBeFollowed line w slot place next →
+      IsItem line next v own x → IsItem line place w (v ∷ own) x
 
 -- The words are these items, one after another.
 pub data AreItems (line : LineKind) : List Word → List Item → Type 0 where
   none : AreItems line [] []
-  more : (w : Word) (own rest : List Word) (item : Item) (others : List Item) → IsItem line start w own item → AreItems line rest others → AreItems line (w ∷ (own ++ rest)) (item ∷ others)
+  more : (w : Word) (own rest : List Word) (item : Item) (others : List Item) → IsItem line start w own item → AreItems line rest others →
+      AreItems line (w ∷ (own ++ rest)) (item ∷ others)
 
 -- these items, with more put in from left to right
 abbrev pub put_all : List Item → Items → Items
@@ -83,13 +88,17 @@ pub data IsFault (line : LineKind) (given : Items) : ItemPlace → Word → List
   -- Nothing after a keyword, `to`, a kind, `root`, `match` or `exact`, whether its item was given or not.
   nothing_after : (place next : ItemPlace) (w : Word) (slot : Slot) → MustBeFollowed line w slot place next → IsFault line given place w [] MissingValue
   -- An item that was given: by such a word, which something follows,
-  given_before : (place next : ItemPlace) (w v : Word) (ws : List Word) (slot : Slot) → MustBeFollowed line w slot place next → has slot given ≡ true → IsFault line given place w (v ∷ ws) Repeated
+  given_before : (place next : ItemPlace) (w v : Word) (ws : List Word) (slot : Slot) → MustBeFollowed line w slot place next →
+      has slot given ≡ true → IsFault line given place w (v ∷ ws) Repeated
   -- or by a word that says the item alone.
-  alone_before : (w : Word) (ws : List Word) (x : Item) → word_in line.entries w ≡ Some (Alone x) → has (slot_of x) given ≡ true → IsFault line given start w ws Repeated
+  alone_before : (w : Word) (ws : List Word) (x : Item) → word_in line.entries w ≡ Some (Alone x) → has (slot_of x) given ≡ true →
+      IsFault line given start w ws Repeated
   -- A bad value.
-  bad_value : (place : ItemPlace) (w : Word) (ws : List Word) (slot : Slot) (b : Option PrefixWord) (fault : Refusal) → IsValue line w slot place b → has slot given ≡ false → value slot b w ≡ Err fault → IsFault line given place w ws fault
+  bad_value : (place : ItemPlace) (w : Word) (ws : List Word) (slot : Slot) (b : Option PrefixWord) (fault : Refusal) →
+      IsValue line w slot place b → has slot given ≡ false → value slot b w ≡ Err fault → IsFault line given place w ws fault
   -- The words are looked at from left to right: the fault of what follows, after a word of an item that was not given.
-  further : (place next : ItemPlace) (w v : Word) (ws : List Word) (slot : Slot) (fault : Refusal) → MustBeFollowed line w slot place next → has slot given ≡ false → IsFault line given next v ws fault → IsFault line given place w (v ∷ ws) fault
+  further : (place next : ItemPlace) (w v : Word) (ws : List Word) (slot : Slot) (fault : Refusal) → MustBeFollowed line w slot place next →
+      has slot given ≡ false → IsFault line given next v ws fault → IsFault line given place w (v ∷ ws) fault
 
 -- After good words comes an item with this fault; there is only one such place (the law `first_faults`).
 pub record FirstFault (line : LineKind) (given : Items) (ws : List Word) (fault : Refusal) : Type 0 where

@@ -5,7 +5,8 @@ use Rattle.prt_command.specs.declared.item.Item.{Item}
 use Rattle.prt_command.specs.declared.item.Item.TheVariants as item
 use Rattle.prt_command.specs.declared.item.Items.{Items}
 use Rattle.prt_command.specs.declared.item.Slot.{Slot}
-use Rattle.prt_command.specs.declared.item.Slot.TheVariants.{Destination, Via, Dev, Table, Proto, Scope, Src, Metric, Range, Tables, OfKind, Address, Source, Iif, Mark, Inverted, From, To, Fwmark, Priority, Action, Suppress}
+use Rattle.prt_command.specs.declared.item.Slot.TheVariants.{Destination, Via, Dev, Table, Proto, Scope, Src, Metric, Range, Tables, OfKind, Address}
+use Rattle.prt_command.specs.declared.item.Slot.TheVariants.{Source, Iif, Mark, Inverted, From, To, Fwmark, Priority, Action, Suppress}
 
 -- which item it is
 abbrev pub slot_of : Item → Slot
@@ -85,7 +86,8 @@ has Suppress items = is_some items.suppress
 
 -- every item that there may be
 abbrev pub every_slot : List Slot
-every_slot = Destination ∷ Via ∷ Dev ∷ Table ∷ Proto ∷ Scope ∷ Src ∷ Metric ∷ Range ∷ Tables ∷ OfKind ∷ Address ∷ Source ∷ Iif ∷ Mark ∷ Inverted ∷ From ∷ To ∷ Fwmark ∷ Priority ∷ Action ∷ Suppress ∷ []
+every_slot = Destination ∷ Via ∷ Dev ∷ Table ∷ Proto ∷ Scope ∷ Src ∷ Metric ∷ Range ∷ Tables ∷ OfKind ∷ Address ∷ Source ∷ Iif ∷ Mark
+    ∷ Inverted ∷ From ∷ To ∷ Fwmark ∷ Priority ∷ Action ∷ Suppress ∷ []
 
 -- whether none is among these
 abbrev pub is_empty : Items → Bool

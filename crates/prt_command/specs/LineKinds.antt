@@ -6,7 +6,8 @@ use Rattle.prt_command.specs.declared.item.Item.TheVariants as item
 use Rattle.prt_command.specs.declared.item.ItemWord.{ItemWord}
 use Rattle.prt_command.specs.declared.item.ItemWord.TheVariants.{Keyword, Alone}
 use Rattle.prt_command.specs.declared.item.Slot.{Slot}
-use Rattle.prt_command.specs.declared.item.Slot.TheVariants.{Destination, Via, Dev, Table, Proto, Scope, Src, Metric, Range, Tables, OfKind, Address, Source, Iif, Mark, From, To, Fwmark, Priority, Action, Suppress}
+use Rattle.prt_command.specs.declared.item.Slot.TheVariants.{Destination, Via, Dev, Table, Proto, Scope, Src, Metric, Range, Tables, OfKind, Address}
+use Rattle.prt_command.specs.declared.item.Slot.TheVariants.{Source, Iif, Mark, From, To, Fwmark, Priority, Action, Suppress}
 
 -- the spellings of a word, and what it begins
 abbrev pub Entry : Type 0

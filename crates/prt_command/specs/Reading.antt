@@ -1,5 +1,6 @@
 -- What a line asks for, or its first fault.
-use Rattle.std.specs.Prelude.{ℕ, Bool, true, false, not, ◌&&◌, ◌||◌, ◌==◌, nat_lt, nat_le, List, [], ◌∷◌, length, filter, find, Option, Some, None, Result, Ok, Err, bytes_eq, codes, if◌then◌else◌}
+use Rattle.std.specs.Prelude.{ℕ, Bool, true, false, not, ◌&&◌, ◌||◌, ◌==◌, nat_lt, nat_le, List, [], ◌∷◌, length, filter, find, Option, Some, None}
+use Rattle.std.specs.Prelude.{Result, Ok, Err, bytes_eq, codes, if◌then◌else◌}
 use Rattle.std.specs.List.{before_first, list_all, slice_split}
 use Rattle.std.specs.Option.{ok_or}
 use Rattle.prt_addr.specs.Word.{Word, is_white, is_one_of}
@@ -8,7 +9,8 @@ use Rattle.prt_refusals.specs.declared.refusal.Refusal.TheVariants.{LineTooLong,
 use Rattle.prt_command.specs.Items.{no_items}
 use Rattle.prt_command.specs.Lines.{longest_line}
 use Rattle.prt_command.specs.LineKinds.{LineKind, bare_line, route_edit_line, route_get_line, route_list_line, rule_edit_line}
-use Rattle.prt_command.specs.Requests.{Asks, refuse_if, route_request, route_del_request, route_flush_request, route_show_request, route_get_request, rule_add_request, rule_del_request}
+use Rattle.prt_command.specs.Requests.{Asks, refuse_if, route_request, route_del_request, route_flush_request, route_show_request, route_get_request}
+use Rattle.prt_command.specs.Requests.{rule_add_request, rule_del_request}
 use Rattle.prt_command.specs.Scan.{items_of}
 use Rattle.prt_command.specs.Then.{◌>>=◌}
 use Rattle.prt_command.specs.declared.request.Command.TheVariants as commands
@@ -18,7 +20,8 @@ use Rattle.prt_command.specs.declared.request.Request.TheVariants as requests
 use Rattle.prt_command.specs.declared.verb.Object.{Object}
 use Rattle.prt_command.specs.declared.verb.Object.TheVariants.{Route, Rule}
 use Rattle.prt_command.specs.declared.verb.ObjectVerb.{ObjectVerb}
-use Rattle.prt_command.specs.declared.verb.ObjectVerb.TheVariants.{RouteAdd, RouteChange, RouteReplace, RouteDel, RouteFlush, RouteShow, RouteGet, RuleAdd, RuleDel, RuleFlush, RuleShow}
+use Rattle.prt_command.specs.declared.verb.ObjectVerb.TheVariants.{RouteAdd, RouteChange, RouteReplace, RouteDel, RouteFlush, RouteShow, RouteGet}
+use Rattle.prt_command.specs.declared.verb.ObjectVerb.TheVariants.{RuleAdd, RuleDel, RuleFlush, RuleShow}
 
 -- ---- words
 

@@ -8,7 +8,8 @@ use Rattle.prt_command.specs.Scan.{Scanned, items_after}
 use Rattle.prt_command.specs.Then.{◌>>=◌}
 use Rattle.prt_command.specs.declared.item.Items.{Items}
 use Rattle.prt_command.specs.declared.item.Slot.{Slot}
-use Rattle.prt_command.specs.declared.item.Slot.TheVariants.{Range, Tables, OfKind, Address, Source, Iif, Mark, Inverted, From, To, Fwmark, Priority, Action, Suppress}
+use Rattle.prt_command.specs.declared.item.Slot.TheVariants.{Range, Tables, OfKind, Address, Source, Iif, Mark, Inverted, From, To, Fwmark, Priority}
+use Rattle.prt_command.specs.declared.item.Slot.TheVariants.{Action, Suppress}
 
 -- an item that was read and the items after it, or its fault
 abbrev pub and_items : LineKind → Items → Scanned → List Word → Result Items Refusal

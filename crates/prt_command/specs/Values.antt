@@ -22,7 +22,8 @@ use Rattle.prt_command.specs.Then.{map_ok}
 use Rattle.prt_command.specs.declared.item.Item.{Item}
 use Rattle.prt_command.specs.declared.item.Item.TheVariants as item
 use Rattle.prt_command.specs.declared.item.Slot.{Slot}
-use Rattle.prt_command.specs.declared.item.Slot.TheVariants.{Destination, Via, Dev, Table, Proto, Scope, Src, Metric, Range, Tables, OfKind, Address, Source, Iif, Mark, Inverted, From, To, Fwmark, Priority, Action, Suppress}
+use Rattle.prt_command.specs.declared.item.Slot.TheVariants.{Destination, Via, Dev, Table, Proto, Scope, Src, Metric, Range, Tables, OfKind, Address}
+use Rattle.prt_command.specs.declared.item.Slot.TheVariants.{Source, Iif, Mark, Inverted, From, To, Fwmark, Priority, Action, Suppress}
 use Rattle.prt_command.specs.declared.item.PrefixWord.{PrefixWord}
 use Rattle.prt_command.specs.declared.item.PrefixWord.TheVariants as before
 use Rattle.prt_command.specs.declared.item.Target.{Target}

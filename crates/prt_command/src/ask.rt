@@ -1,7 +1,9 @@
 //! What the items of a line ask for together.
 ghost use Rattle.std.specs.Prelude.{◌≡◌, nat_lt};
 ghost use Rattle.prt_addr.specs.Word.{keep};
-ghost use Rattle.prt_command.specs.Requests.{has_next_hop, new_route, packet_of, route_by, route_choice, route_del_request, route_flush_request, route_get_request, route_of, rule_add_request, rule_choice, rule_del_request, rule_of, scope_of, selected_table, selector_of, suppresses_without_lookup, unless_empty};
+ghost use Rattle.prt_command.specs.Requests.{has_next_hop, new_route, packet_of, route_by, route_choice, route_del_request, route_flush_request};
+ghost use Rattle.prt_command.specs.Requests.{route_get_request, route_of, rule_add_request, rule_choice, rule_del_request, rule_of, scope_of};
+ghost use Rattle.prt_command.specs.Requests.{selected_table, selector_of, suppresses_without_lookup, unless_empty};
 ghost use Rattle.prt_command.specs.Reading.{meaning_of};
 
 use crate::verb::ObjectVerb;

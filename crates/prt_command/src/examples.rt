@@ -1,8 +1,12 @@
 //! Lines with what they ask for, computed with the definitions alone.
 ghost use Rattle.std.specs.Prelude.{◌≡◌, ◌∷◌, [], ◌++◌, Err, None, Ok, Some, codes, false, replicate, true};
-ghost use Rattle.prt_refusals.specs.declared.refusal.Refusal.TheVariants.{BadAddress, BadName, BadNumber, BadPrefix, BadTable, HostBits, LineTooLong, MissingDestination, MissingValue, NextHopNotAllowed, NoNextHop, NotAscii, Repeated, SuppressNotAllowed, TooBroad, UnknownObject, UnknownVerb, UnknownWord};
+ghost use Rattle.prt_refusals.specs.declared.refusal.Refusal.TheVariants.{BadAddress, BadName, BadNumber, BadPrefix, BadTable, HostBits, LineTooLong};
+ghost use Rattle.prt_refusals.specs.declared.refusal.Refusal.TheVariants.{MissingDestination, MissingValue, NextHopNotAllowed, NoNextHop, NotAscii};
+ghost use Rattle.prt_refusals.specs.declared.refusal.Refusal.TheVariants.{Repeated, SuppressNotAllowed, TooBroad, UnknownObject, UnknownVerb};
+ghost use Rattle.prt_refusals.specs.declared.refusal.Refusal.TheVariants.{UnknownWord};
 ghost use Rattle.prt_command.specs.Reading.{reading};
-ghost use Rattle.prt_command.specs.declared.request.Command.TheVariants.{RouteAdd, RouteChange, RouteDel, RouteFlush, RouteReplace, RuleAdd, RuleDel, RuleFlush};
+ghost use Rattle.prt_command.specs.declared.request.Command.TheVariants.{RouteAdd, RouteChange, RouteDel, RouteFlush, RouteReplace, RuleAdd, RuleDel};
+ghost use Rattle.prt_command.specs.declared.request.Command.TheVariants.{RuleFlush};
 ghost use Rattle.prt_command.specs.declared.request.Query.TheVariants.{Get, RouteShow, RuleShow};
 ghost use Rattle.prt_command.specs.declared.request.Request.TheVariants as requests;
 ghost use Rattle.prt_route.specs.declared.choice.Range.TheVariants as ranges;
@@ -102,28 +106,200 @@ pub fn refused_lines()
 
 /// Accepted lines that put routes, each with the command that it asks for.
 pub fn accepted_routes()
-    ensures add { reading (codes "route add default via 192.0.2.1 dev eth0") ≡ Ok (Some (requests.Command (RouteAdd (record { table = 254; prefix = record { bits = 0; len = 0 }; metric = 0; kind = kinds.Unicast; via = Some (record { 0 = 0xc0000201 }); dev = Some (codes "eth0"); src = None; proto = 3; scope = 0 })))) }
-    ensures any_order { reading (codes "ip -4 ro a dev eth0 to 10.1/16 # on the link") ≡ Ok (Some (requests.Command (RouteAdd (record { table = 254; prefix = record { bits = 0x0a010000; len = 16 }; metric = 0; kind = kinds.Unicast; via = None; dev = Some (codes "eth0"); src = None; proto = 3; scope = 253 })))) }
-    ensures keyword_as_value { reading (codes "r add 10/8 dev via") ≡ Ok (Some (requests.Command (RouteAdd (record { table = 254; prefix = record { bits = 0x0a000000; len = 8 }; metric = 0; kind = kinds.Unicast; via = None; dev = Some (codes "via"); src = None; proto = 3; scope = 253 })))) }
-    ensures all_items { reading (codes "route add unicast 10/8 via 192.0.2.1 table local preference 0x20") ≡ Ok (Some (requests.Command (RouteAdd (record { table = 255; prefix = record { bits = 0x0a000000; len = 8 }; metric = 32; kind = kinds.Unicast; via = Some (record { 0 = 0xc0000201 }); dev = None; src = None; proto = 3; scope = 0 })))) }
-    ensures kind { reading (codes "r a to blackhole 10/8") ≡ Ok (Some (requests.Command (RouteAdd (record { table = 254; prefix = record { bits = 0x0a000000; len = 8 }; metric = 0; kind = kinds.Blackhole; via = None; dev = None; src = None; proto = 3; scope = 0 })))) }
-    ensures throw { reading (codes "route add table 100 throw default") ≡ Ok (Some (requests.Command (RouteAdd (record { table = 100; prefix = record { bits = 0; len = 0 }; metric = 0; kind = kinds.Throw; via = None; dev = None; src = None; proto = 3; scope = 0 })))) }
-    ensures full_route { reading (codes "route add 192.0.2.0/24 dev eth0 proto kernel scope link src 192.0.2.10 metric 100") ≡ Ok (Some (requests.Command (RouteAdd (record { table = 254; prefix = record { bits = 0xc0000200; len = 24 }; metric = 100; kind = kinds.Unicast; via = None; dev = Some (codes "eth0"); src = Some (record { 0 = 0xc000020a }); proto = 2; scope = 253 })))) }
-    ensures scope_of_gateway { reading (codes "route chg 10/8 via 192.0.2.1 scope site protocol 186") ≡ Ok (Some (requests.Command (RouteChange (record { table = 254; prefix = record { bits = 0x0a000000; len = 8 }; metric = 0; kind = kinds.Unicast; via = Some (record { 0 = 0xc0000201 }); dev = None; src = None; proto = 186; scope = 200 })))) }
-    ensures scope_of_kind { reading (codes "route replace throw 10/8 scope host") ≡ Ok (Some (requests.Command (RouteReplace (record { table = 254; prefix = record { bits = 0x0a000000; len = 8 }; metric = 0; kind = kinds.Throw; via = None; dev = None; src = None; proto = 3; scope = 0 })))) }
+    ensures add { reading (codes "route add default via 192.0.2.1 dev eth0")
+        ≡ Ok (Some (requests.Command (RouteAdd
+        (record {
+          table = 254;
+          prefix = record { bits = 0; len = 0 };
+          metric = 0;
+          kind = kinds.Unicast;
+          via =
+              Some (record { 0 = 0xc0000201 });
+          dev = Some (codes "eth0");
+          src = None;
+          proto = 3;
+          scope = 0;
+        })))) }
+    ensures any_order { reading (codes "ip -4 ro a dev eth0 to 10.1/16 # on the link")
+        ≡ Ok (Some (requests.Command (RouteAdd
+        (record {
+          table = 254;
+          prefix = record { bits = 0x0a010000; len = 16 };
+          metric = 0;
+          kind = kinds.Unicast;
+          via = None;
+          dev =
+              Some (codes "eth0");
+          src = None;
+          proto = 3;
+          scope = 253;
+        })))) }
+    ensures keyword_as_value { reading (codes "r add 10/8 dev via")
+        ≡ Ok (Some (requests.Command (RouteAdd
+        (record {
+          table = 254;
+          prefix = record { bits = 0x0a000000; len = 8 };
+          metric = 0;
+          kind = kinds.Unicast;
+          via = None;
+          dev =
+              Some (codes "via");
+          src = None;
+          proto = 3;
+          scope = 253;
+        })))) }
+    ensures all_items { reading (codes "route add unicast 10/8 via 192.0.2.1 table local preference 0x20")
+        ≡ Ok (Some (requests.Command (RouteAdd
+        (record {
+          table = 255;
+          prefix = record { bits = 0x0a000000; len = 8 };
+          metric = 32;
+          kind = kinds.Unicast;
+          via =
+              Some (record { 0 = 0xc0000201 });
+          dev = None;
+          src = None;
+          proto = 3;
+          scope = 0;
+        })))) }
+    ensures kind { reading (codes "r a to blackhole 10/8")
+        ≡ Ok (Some (requests.Command (RouteAdd
+        (record {
+          table = 254;
+          prefix = record { bits = 0x0a000000; len = 8 };
+          metric = 0;
+          kind = kinds.Blackhole;
+          via = None;
+          dev =
+              None;
+          src = None;
+          proto = 3;
+          scope = 0;
+        })))) }
+    ensures throw { reading (codes "route add table 100 throw default")
+        ≡ Ok (Some (requests.Command (RouteAdd
+        (record {
+          table = 100;
+          prefix = record { bits = 0; len = 0 };
+          metric = 0;
+          kind = kinds.Throw;
+          via = None;
+          dev = None;
+          src =
+              None;
+          proto = 3;
+          scope = 0;
+        })))) }
+    ensures full_route { reading (codes "route add 192.0.2.0/24 dev eth0 proto kernel scope link src 192.0.2.10 metric 100")
+        ≡ Ok (Some (requests.Command (RouteAdd
+        (record {
+          table = 254;
+          prefix = record { bits = 0xc0000200; len = 24 };
+          metric = 100;
+          kind = kinds.Unicast;
+          via = None;
+          dev =
+              Some (codes "eth0");
+          src = Some (record { 0 = 0xc000020a });
+          proto = 2;
+          scope = 253;
+        })))) }
+    ensures scope_of_gateway { reading (codes "route chg 10/8 via 192.0.2.1 scope site protocol 186")
+        ≡ Ok (Some (requests.Command (RouteChange
+        (record {
+          table = 254;
+          prefix = record { bits = 0x0a000000; len = 8 };
+          metric = 0;
+          kind = kinds.Unicast;
+          via =
+              Some (record { 0 = 0xc0000201 });
+          dev = None;
+          src = None;
+          proto = 186;
+          scope = 200;
+        })))) }
+    ensures scope_of_kind { reading (codes "route replace throw 10/8 scope host")
+        ≡ Ok (Some (requests.Command (RouteReplace
+        (record {
+          table = 254;
+          prefix = record { bits = 0x0a000000; len = 8 };
+          metric = 0;
+          kind = kinds.Throw;
+          via = None;
+          dev = None;
+          src =
+              None;
+          proto = 3;
+          scope = 0;
+        })))) }
 {}
 
 /// Other accepted lines about routes, and lines that ask for nothing.
 pub fn accepted_lines()
-    ensures get { reading (codes "route get 198.51.100.7") ≡ Ok (Some (requests.Query (Get (record { dst = record { 0 = 0xc6336407 }; src = record { 0 = 0 }; iif = codes "lo"; mark = 0 })))) }
-    ensures get_to { reading (codes "-4 r get to 10#") ≡ Ok (Some (requests.Query (Get (record { dst = record { 0 = 0x0a000000 }; src = record { 0 = 0 }; iif = codes "lo"; mark = 0 })))) }
-    ensures get_packet { reading (codes "route get to 10.1.2 iif eth1 mark 0x1F from 192.0.2.9") ≡ Ok (Some (requests.Query (Get (record { dst = record { 0 = 0x0a010200 }; src = record { 0 = 0xc0000209 }; iif = codes "eth1"; mark = 31 })))) }
-    ensures delete { reading (codes "r d 10/8 metric 0") ≡ Ok (Some (requests.Command (RouteDel (record { table = 254; prefix = record { bits = 0x0a000000; len = 8 }; metric = None; kind = None; via = None; dev = None; src = None; proto = None; scope = None })))) }
-    ensures delete_exactly { reading (codes "route delete unicast 10/8 metric 5 via 192.0.2.1 dev a src 10.0.0.1 proto static scope 7 table 100") ≡ Ok (Some (requests.Command (RouteDel (record { table = 100; prefix = record { bits = 0x0a000000; len = 8 }; metric = Some 5; kind = Some kinds.Unicast; via = Some (record { 0 = 0xc0000201 }); dev = Some (codes "a"); src = Some (record { 0 = 0x0a000001 }); proto = Some 4; scope = Some 7 })))) }
-    ensures show { reading (codes "route") ≡ Ok (Some (requests.Query (RouteShow (record { table = Some 254; range = ranges.All; kind = None; proto = None; scope = None; dev = None })))) }
-    ensures show_all { reading (codes "ro ls table all root 10.1.2.3/16 type blackhole dev all") ≡ Ok (Some (requests.Query (RouteShow (record { table = None; range = ranges.Root (record { bits = 0x0a010000; len = 16 }); kind = Some kinds.Blackhole; proto = None; scope = None; dev = Some (codes "all") })))) }
-    ensures flush_matching { reading (codes "route flush proto bgp to match 10.1/16 scope global table 7") ≡ Ok (Some (requests.Command (RouteFlush (record { table = Some 7; range = ranges.Covering (record { bits = 0x0a010000; len = 16 }); kind = None; proto = Some 186; scope = Some 0; dev = None })))) }
-    ensures flush_table { reading (codes "route flush table main") ≡ Ok (Some (requests.Command (RouteFlush (record { table = Some 254; range = ranges.All; kind = None; proto = None; scope = None; dev = None })))) }
+    ensures get { reading (codes "route get 198.51.100.7")
+        ≡ Ok (Some (requests.Query (Get (record { dst = record { 0 = 0xc6336407 }; src = record { 0 = 0 }; iif = codes "lo"; mark = 0 })))) }
+    ensures get_to { reading (codes "-4 r get to 10#")
+        ≡ Ok (Some (requests.Query (Get (record { dst = record { 0 = 0x0a000000 }; src = record { 0 = 0 }; iif = codes "lo"; mark = 0 })))) }
+    ensures get_packet { reading (codes "route get to 10.1.2 iif eth1 mark 0x1F from 192.0.2.9")
+        ≡ Ok (Some (requests.Query (Get
+        (record { dst = record { 0 = 0x0a010200 }; src = record { 0 = 0xc0000209 }; iif = codes "eth1"; mark = 31 })))) }
+    ensures delete { reading (codes "r d 10/8 metric 0")
+        ≡ Ok (Some (requests.Command (RouteDel
+        (record {
+          table = 254;
+          prefix = record { bits = 0x0a000000; len = 8 };
+          metric = None;
+          kind = None;
+          via = None;
+          dev = None;
+          src =
+              None;
+          proto = None;
+          scope = None;
+        })))) }
+    ensures delete_exactly { reading
+        (codes "route delete unicast 10/8 metric 5 via 192.0.2.1 dev a src 10.0.0.1 proto static scope 7 table 100")
+        ≡ Ok (Some (requests.Command (RouteDel
+        (record {
+          table = 100;
+          prefix = record { bits = 0x0a000000; len = 8 };
+          metric = Some 5;
+          kind = Some kinds.Unicast;
+          via =
+              Some (record { 0 = 0xc0000201 });
+          dev = Some (codes "a");
+          src = Some (record { 0 = 0x0a000001 });
+          proto = Some 4;
+          scope = Some 7;
+        })))) }
+    ensures show { reading (codes "route")
+        ≡ Ok (Some (requests.Query (RouteShow
+        (record { table = Some 254; range = ranges.All; kind = None; proto = None; scope = None; dev = None })))) }
+    ensures show_all { reading (codes "ro ls table all root 10.1.2.3/16 type blackhole dev all")
+        ≡ Ok (Some (requests.Query (RouteShow
+        (record {
+          table = None;
+          range = ranges.Root (record { bits = 0x0a010000; len = 16 });
+          kind = Some kinds.Blackhole;
+          proto =
+              None;
+          scope = None;
+          dev = Some (codes "all");
+        })))) }
+    ensures flush_matching { reading (codes "route flush proto bgp to match 10.1/16 scope global table 7")
+        ≡ Ok (Some (requests.Command (RouteFlush
+        (record {
+          table = Some 7;
+          range = ranges.Covering (record { bits = 0x0a010000; len = 16 });
+          kind = None;
+          proto = Some 186;
+          scope =
+              Some 0;
+          dev = None;
+        })))) }
+    ensures flush_table { reading (codes "route flush table main")
+        ≡ Ok (Some (requests.Command (RouteFlush
+        (record { table = Some 254; range = ranges.All; kind = None; proto = None; scope = None; dev = None })))) }
     ensures exact_is_meant { reading (codes "route lst 10/8") ≡ reading (codes "route list exact 10/8") }
     ensures blank { reading (codes " \t\r") ≡ Ok None }
     ensures comment { reading (codes "# route add" ++ 195 ∷ []) ≡ Ok None }
@@ -132,16 +308,117 @@ pub fn accepted_lines()
 
 /// Accepted lines about rules, each with what it asks for.
 pub fn accepted_rules()
-    ensures rule { reading (codes "rule add") ≡ Ok (Some (requests.Command (RuleAdd (record { priority = None; inverted = false; from = record { bits = 0; len = 0 }; to = record { bits = 0; len = 0 }; iif = None; mark = None; action = actions.Lookup 254; suppress = None })))) }
-    ensures not_marked { reading (codes "ip -4 rule add not fwmark 51820 table 51820") ≡ Ok (Some (requests.Command (RuleAdd (record { priority = None; inverted = true; from = record { bits = 0; len = 0 }; to = record { bits = 0; len = 0 }; iif = None; mark = Some (record { mark = 51820; mask = 0xffffffff }); action = actions.Lookup 51820; suppress = None })))) }
-    ensures from_source { reading (codes "rule add priority 10 from 192.0.2.1/24 blackhole") ≡ Ok (Some (requests.Command (RuleAdd (record { priority = Some 10; inverted = false; from = record { bits = 0xc0000200; len = 24 }; to = record { bits = 0; len = 0 }; iif = None; mark = None; action = actions.Blackhole; suppress = None })))) }
-    ensures all_rule_items { reading (codes "ru a lookup default order 0 dev eth0 to 10.1 from all fwmark 0xFF/0x0f not") ≡ Ok (Some (requests.Command (RuleAdd (record { priority = Some 0; inverted = true; from = record { bits = 0; len = 0 }; to = record { bits = 0x0a010000; len = 32 }; iif = Some (codes "eth0"); mark = Some (record { mark = 255; mask = 15 }); action = actions.Lookup 253; suppress = None })))) }
-    ensures rule_delete { reading (codes "rule del not from all priority 5 prohibit") ≡ Ok (Some (requests.Command (RuleDel (record { priority = Some 5; inverted = true; from = Some (record { bits = 0; len = 0 }); to = None; iif = None; mark = None; action = Some actions.Prohibit; suppress = None })))) }
-    ensures rule_delete_inverted { reading (codes "ru d not") ≡ Ok (Some (requests.Command (RuleDel (record { priority = None; inverted = true; from = None; to = None; iif = None; mark = None; action = None; suppress = None })))) }
-    ensures suppress { reading (codes "rule add table main suppress_prefixlength 0") ≡ Ok (Some (requests.Command (RuleAdd (record { priority = None; inverted = false; from = record { bits = 0; len = 0 }; to = record { bits = 0; len = 0 }; iif = None; mark = None; action = actions.Lookup 254; suppress = Some 0 })))) }
-    ensures suppress_hexadecimal { reading (codes "rule add suppress_prefixlength 0x20 table 7") ≡ Ok (Some (requests.Command (RuleAdd (record { priority = None; inverted = false; from = record { bits = 0; len = 0 }; to = record { bits = 0; len = 0 }; iif = None; mark = None; action = actions.Lookup 7; suppress = Some 32 })))) }
-    ensures rule_delete_suppressing { reading (codes "rule del suppress_prefixlength 8") ≡ Ok (Some (requests.Command (RuleDel (record { priority = None; inverted = false; from = None; to = None; iif = None; mark = None; action = None; suppress = Some 8 })))) }
-    ensures rule_delete_failing_suppress { reading (codes "rule del blackhole suppress_prefixlength 8") ≡ Ok (Some (requests.Command (RuleDel (record { priority = None; inverted = false; from = None; to = None; iif = None; mark = None; action = Some actions.Blackhole; suppress = Some 8 })))) }
+    ensures rule { reading (codes "rule add")
+        ≡ Ok (Some (requests.Command (RuleAdd
+        (record {
+          priority = None;
+          inverted = false;
+          from = record { bits = 0; len = 0 };
+          to = record { bits = 0; len = 0 };
+          iif =
+              None;
+          mark = None;
+          action = actions.Lookup 254;
+          suppress = None;
+        })))) }
+    ensures not_marked { reading (codes "ip -4 rule add not fwmark 51820 table 51820")
+        ≡ Ok (Some (requests.Command (RuleAdd
+        (record {
+          priority = None;
+          inverted = true;
+          from = record { bits = 0; len = 0 };
+          to = record { bits = 0; len = 0 };
+          iif =
+              None;
+          mark = Some (record { mark = 51820; mask = 0xffffffff });
+          action = actions.Lookup 51820;
+          suppress = None;
+        })))) }
+    ensures from_source { reading (codes "rule add priority 10 from 192.0.2.1/24 blackhole")
+        ≡ Ok (Some (requests.Command (RuleAdd
+        (record {
+          priority = Some 10;
+          inverted = false;
+          from = record { bits = 0xc0000200; len = 24 };
+          to =
+              record { bits = 0; len = 0 };
+          iif = None;
+          mark = None;
+          action = actions.Blackhole;
+          suppress = None;
+        })))) }
+    ensures all_rule_items { reading (codes "ru a lookup default order 0 dev eth0 to 10.1 from all fwmark 0xFF/0x0f not")
+        ≡ Ok (Some (requests.Command (RuleAdd
+        (record {
+          priority = Some 0;
+          inverted = true;
+          from = record { bits = 0; len = 0 };
+          to =
+              record { bits = 0x0a010000; len = 32 };
+          iif = Some (codes "eth0");
+          mark = Some (record { mark = 255; mask = 15 });
+          action =
+              actions.Lookup 253;
+          suppress = None;
+        })))) }
+    ensures rule_delete { reading (codes "rule del not from all priority 5 prohibit")
+        ≡ Ok (Some (requests.Command (RuleDel
+        (record {
+          priority = Some 5;
+          inverted = true;
+          from = Some (record { bits = 0; len = 0 });
+          to = None;
+          iif = None;
+          mark =
+              None;
+          action = Some actions.Prohibit;
+          suppress = None;
+        })))) }
+    ensures rule_delete_inverted { reading (codes "ru d not")
+        ≡ Ok (Some (requests.Command (RuleDel
+        (record { priority = None; inverted = true; from = None; to = None; iif = None; mark = None; action = None; suppress = None })))) }
+    ensures suppress { reading (codes "rule add table main suppress_prefixlength 0")
+        ≡ Ok (Some (requests.Command (RuleAdd
+        (record {
+          priority = None;
+          inverted = false;
+          from = record { bits = 0; len = 0 };
+          to = record { bits = 0; len = 0 };
+          iif =
+              None;
+          mark = None;
+          action = actions.Lookup 254;
+          suppress = Some 0;
+        })))) }
+    ensures suppress_hexadecimal { reading (codes "rule add suppress_prefixlength 0x20 table 7")
+        ≡ Ok (Some (requests.Command (RuleAdd
+        (record {
+          priority = None;
+          inverted = false;
+          from = record { bits = 0; len = 0 };
+          to = record { bits = 0; len = 0 };
+          iif =
+              None;
+          mark = None;
+          action = actions.Lookup 7;
+          suppress = Some 32;
+        })))) }
+    ensures rule_delete_suppressing { reading (codes "rule del suppress_prefixlength 8")
+        ≡ Ok (Some (requests.Command (RuleDel
+        (record { priority = None; inverted = false; from = None; to = None; iif = None; mark = None; action = None; suppress = Some 8 })))) }
+    ensures rule_delete_failing_suppress { reading (codes "rule del blackhole suppress_prefixlength 8")
+        ≡ Ok (Some (requests.Command (RuleDel
+        (record {
+          priority = None;
+          inverted = false;
+          from = None;
+          to = None;
+          iif = None;
+          mark = None;
+          action =
+              Some actions.Blackhole;
+          suppress = Some 8;
+        })))) }
     ensures rule_flush { reading (codes "rule flush") ≡ Ok (Some (requests.Command RuleFlush)) }
     ensures rule_alone { reading (codes "ip rule") ≡ Ok (Some (requests.Query RuleShow)) }
     ensures rule_show { reading (codes "rule show #" ++ 195 ∷ []) ≡ Ok (Some (requests.Query RuleShow)) }

@@ -14,7 +14,8 @@ use prt_route::Refusal;
 
 /// Takes the value after a word that something must follow: the value, and the text after it.
 fn value_after(given: bool, rest: &[u8]) -> Result<(&[u8], &[u8]), Refusal>
-    ensures value { IfOk result (λ x. (reads : Word → List Word → Scanned) → what_follows given reads (words rest.now) ≡ one_more (reads x.0.now (words x.1.now))) }
+    ensures value { IfOk result (λ x. (reads : Word → List Word → Scanned) →
+        what_follows given reads (words rest.now) ≡ one_more (reads x.0.now (words x.1.now))) }
     ensures words { IfOk result (λ x. words rest.now ≡ x.0.now ∷ words x.1.now) }
     ensures shorter { IfOk result (λ x. length x.1.now < length rest.now) }
     ensures new { IfOk result (λ x. given ≡ false) }
@@ -34,7 +35,8 @@ fn read_value<'a>(
     before: Option<PrefixWord>,
     rest: &'a [u8],
 ) -> Result<&'a [u8], Refusal>
-    ensures items { IfOk result (λ after. (line : LineKind) → and_items line items.old (value_item slot before items.old (words rest.now)) (words rest.now) ≡ items_of line items.new (words after.now)) }
+    ensures items { IfOk result (λ after. (line : LineKind) →
+        and_items line items.old (value_item slot before items.old (words rest.now)) (words rest.now) ≡ items_of line items.new (words after.now)) }
     ensures shorter { IfOk result (λ after. length after.now ≤ length rest.now) }
     ensures fault { IfErr result (λ e. value_item slot before items.old (words rest.now) ≡ Err e) }
 {
@@ -55,7 +57,8 @@ fn read_qualified<'a>(
     word: &[u8],
     rest: &'a [u8],
 ) -> Result<&'a [u8], Refusal>
-    ensures items { IfOk result (λ after. (line : LineKind) → and_items line items.old (plain_from slot items.old word.now (words rest.now)) (words rest.now) ≡ items_of line items.new (words after.now)) }
+    ensures items { IfOk result (λ after. (line : LineKind) →
+        and_items line items.old (plain_from slot items.old word.now (words rest.now)) (words rest.now) ≡ items_of line items.new (words after.now)) }
     ensures shorter { IfOk result (λ after. length after.now ≤ length rest.now) }
     ensures fault { IfErr result (λ e. plain_from slot items.old word.now (words rest.now) ≡ Err e) }
 {
@@ -79,7 +82,9 @@ fn read_plain<'a>(
     word: &[u8],
     rest: &'a [u8],
 ) -> Result<&'a [u8], Refusal>
-    ensures items { IfOk result (λ after. (line : LineKind) → and_items line items.old (plain_item (Some slot) items.old word.now (words rest.now)) (words rest.now) ≡ items_of line items.new (words after.now)) }
+    ensures items { IfOk result (λ after. (line : LineKind) →
+        and_items line items.old (plain_item (Some slot) items.old word.now (words rest.now)) (words rest.now)
+        ≡ items_of line items.new (words after.now)) }
     ensures shorter { IfOk result (λ after. length after.now ≤ length rest.now) }
     ensures fault { IfErr result (λ e. plain_item (Some slot) items.old word.now (words rest.now) ≡ Err e) }
 {
@@ -96,7 +101,8 @@ fn read_word_item<'a>(
     item: ItemWord,
     rest: &'a [u8],
 ) -> Result<&'a [u8], Refusal>
-    ensures items { IfOk result (λ after. (line : LineKind) → and_items line items.old (word_item item items.old (words rest.now)) (words rest.now) ≡ items_of line items.new (words after.now)) }
+    ensures items { IfOk result (λ after. (line : LineKind) →
+        and_items line items.old (word_item item items.old (words rest.now)) (words rest.now) ≡ items_of line items.new (words after.now)) }
     ensures shorter { IfOk result (λ after. length after.now ≤ length rest.now) }
     ensures fault { IfErr result (λ e. word_item item items.old (words rest.now) ≡ Err e) }
 {
@@ -117,7 +123,8 @@ fn read_item<'a>(
     word: &[u8],
     rest: &'a [u8],
 ) -> Result<&'a [u8], Refusal>
-    ensures items { IfOk result (λ after. items_of (meaning_of verb).line items.old (word.now ∷ words rest.now) ≡ items_of (meaning_of verb).line items.new (words after.now)) }
+    ensures items { IfOk result (λ after.
+        items_of (meaning_of verb).line items.old (word.now ∷ words rest.now) ≡ items_of (meaning_of verb).line items.new (words after.now)) }
     ensures shorter { IfOk result (λ after. length after.now ≤ length rest.now) }
     ensures fault { IfErr result (λ e. items_of (meaning_of verb).line items.old (word.now ∷ words rest.now) ≡ Err e) }
 {

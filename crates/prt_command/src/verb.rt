@@ -1,5 +1,6 @@
 ghost use Rattle.std.specs.Prelude.{◌≡◌};
-ghost use Rattle.prt_command.specs.LineKinds.{action_words, outcome_words, route_edit_words, route_get_words, route_list_words, rule_edit_line, selector_words, suppress_words, word_in};
+ghost use Rattle.prt_command.specs.LineKinds.{action_words, outcome_words, route_edit_words, route_get_words, route_list_words, rule_edit_line};
+ghost use Rattle.prt_command.specs.LineKinds.{selector_words, suppress_words, word_in};
 ghost use Rattle.prt_addr.specs.Word.{is_one_of};
 ghost use Rattle.prt_command.specs.Reading.{add_words, del_words, lone_verb, meaning_of, object_of, show_words, verb_of};
 

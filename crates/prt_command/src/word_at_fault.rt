@@ -1,7 +1,8 @@
 //! The word that the first fault of a line is about.
 ghost use Rattle.std.specs.Prelude.{◌≡◌, ◌≤◌, ◌<◌, ◌↔◌, Bool, false, List, [], ◌∷◌, IfSome, MatchOption, None, Some, drop, length};
 ghost use Rattle.prt_addr.specs.Word.{Word};
-ghost use Rattle.prt_command.specs.FaultWord.{IsAbout, IsIn, bytes_at, fault_word, items_fault, line_fault, object_fault, role_of, plain_role, step, verb_fault, words_fault, words_from};
+ghost use Rattle.prt_command.specs.FaultWord.{IsAbout, IsIn, bytes_at, fault_word, items_fault, line_fault, object_fault, role_of, plain_role, step};
+ghost use Rattle.prt_command.specs.FaultWord.{verb_fault, words_fault, words_from};
 ghost use Rattle.prt_command.specs.Items.{no_items};
 ghost use Rattle.prt_command.specs.Reading.{before_comment, meaning_of, skip_word, words};
 ghost use Rattle.prt_command.specs.declared.word_at_fault.Place.TheVariants.{Start};

@@ -20,7 +20,7 @@ use std::sync::Wait;
 use std::thread::Threads;
 use std::{env, io};
 
-/// This machine, with its files and streams. What threads start by is the parameter `N`, since only `main` has it.
+/// This machine, with its files and streams. `N` is the network, by which threads start too: only `main` has one that does.
 struct ThisHost<N> {
     net: PhantomData<N>,
 }

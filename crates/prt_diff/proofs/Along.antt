@@ -1,12 +1,11 @@
 -- The changes are accepted one after another, and each state along them is between both ends.
-use Rattle.std.proofs.Common.{◌≡◌, ◌⊎◌, inl, inr, ℕ, zero, suc, ◌+◌, ◌<◌, Bool, true, false, not, ◌&&◌, List, [], ◌∷◌, ◌++◌, length, map, refl, sym, ap, ◌∙◌, subst, arith}
+use Rattle.std.proofs.Common.{◌≡◌, inl, inr, ℕ, zero, suc, ◌+◌, ◌<◌, Bool, true, false, not, ◌&&◌, List, [], ◌∷◌, ◌++◌, length, map, refl, sym, ap, ◌∙◌, subst, arith}
 use Rattle.std.specs.Prelude.{filter, ◌==◌, nat_le, is_none, if◌then◌else◌}
 use Rattle.std.specs.List.{AllByRecursion as Each, Contains}
 use Rattle.std.proofs.lemmas.Bool.{and_parts}
 use Rattle.std.proofs.lemmas.Bool.Decides.{nat_tests}
 use Rattle.std.proofs.lemmas.List.{length-append, length-map}
 use Rattle.prt_addr.specs.Rising.{IsRising}
-use Rattle.prt_addr.proofs.Each.{each_implies}
 use Rattle.prt_addr.proofs.Orders.{rising_filtered}
 use Rattle.prt_route.specs.Edit.{has_key}
 use Rattle.prt_route.specs.Route.{is_listed_before, key_of}
@@ -16,7 +15,7 @@ use Rattle.prt_rule.specs.declared.rule.Rule.{Rule}
 use Rattle.prt_trie.specs.Table.{has_same_key}
 use Rattle.prt_version.specs.Change.{has_rule}
 use Rattle.prt_version.specs.State.{State}
-use Rattle.prt_version.proofs.RowOrder.{key_differs, keys_both_ways}
+use Rattle.prt_version.proofs.RowOrder.{keys_both_ways}
 use Rattle.prt_diff.specs.Between.{CanBring, EachState, IsBetween, end_of}
 use Rattle.prt_diff.specs.Fence.{is_rule_within, rules_within}
 use Rattle.prt_diff.specs.Plan.{Plan, bring_all, changes, clear_all, delete_routes, nothing_yet, plan, remove_all, replace_routes}
@@ -26,40 +25,10 @@ use Rattle.prt_diff.specs.declared.fence.Fence.{Fence}
 use Rattle.prt_diff.proofs.Finds.{is_unwanted, unwanted_are}
 use Rattle.prt_diff.proofs.HasRule.{has_like, same_has, same_itself}
 use Rattle.prt_diff.proofs.Leads.{each_state, leads_nowhere}
-use Rattle.prt_diff.proofs.Members.{IsIn, any_in, differ, each_in, each_itself, in_any, in_either, in_left, in_right, passed, passing}
+use Rattle.prt_diff.proofs.Members.{IsIn, any_in, differ, each_if, each_in, either, false_by, in_any, in_either, in_left, in_right, negated, passed, passing}
 use Rattle.prt_diff.proofs.PlanSteps.{bring_from, bring_grows, bring_has, brings, clear_fits, clear_grows, clears, remove_gone, remove_grows, remove_keeps, remove_moves_none, removes_all}
 use Rattle.prt_diff.proofs.Reached.{Reached, RoutesBetween, RulesBetween, is_between}
-use Rattle.prt_diff.proofs.RouteSteps.{all_rise, has_its_key, none_fewer, one_of, put_in, puts, puts_pass, removes}
-
--- ---- tests
-
-pub negated : (b : Bool) → not b ≡ true → b ≡ false
-negated true is = differ (sym is)
-negated false is = refl
-
-pub either : (b : Bool) → (b ≡ true) ⊎ (b ≡ false)
-either true = inl refl
-either false = inr refl
-
-pub false_by : (b : Bool) → (b ≡ true → ⊥) → b ≡ false
-false_by true never = absurd (never refl)
-false_by false never = refl
-
-pub each_if : {X : Type 0} (P : X → Type 0) (xs : List X) → ((x : X) → IsIn x xs → P x) → Each P xs
-each_if P xs gives = each_implies (λ x. IsIn x xs) P gives xs (each_itself xs)
-
--- ---- one route a key
-
-pub same_of_key : (routes : List Route) (a b : Route) → IsRising is_listed_before routes → IsIn a routes → IsIn b routes → has_same_key a b ≡ true → a ≡ b
-same_of_key [] a b rises a_in b_in same = absurd a_in
-same_of_key (route ∷ routes) a b rises (inl a_is) (inl b_is) same = a_is ∙ sym b_is
-same_of_key (route ∷ routes) a b rises (inl a_is) (inr b_in) same =
-    let ahead : is_listed_before route b ≡ true = each_in (λ x. is_listed_before route x ≡ true) b routes rises.0 b_in in
-    differ (sym same ∙ ap (λ x. has_same_key x b) a_is ∙ key_differs route b ahead)
-same_of_key (route ∷ routes) a b rises (inr a_in) (inl b_is) same =
-    let ahead : is_listed_before route a ≡ true = each_in (λ x. is_listed_before route x ≡ true) a routes rises.0 a_in in
-    differ (sym same ∙ ap (λ x. has_same_key a x) b_is ∙ keys_both_ways a route ∙ key_differs route a ahead)
-same_of_key (route ∷ routes) a b rises (inr a_in) (inr b_in) same = same_of_key routes a b rises.1 a_in b_in same
+use Rattle.prt_diff.proofs.RouteSteps.{all_rise, has_its_key, none_fewer, one_of, put_in, puts, puts_pass, removes, same_of_key}
 
 -- ---- the order of routes
 

@@ -21,11 +21,11 @@ use Rattle.prt_diff.specs.Plan.{Plan, bring_all, brought, clear_all, cleared, pl
 use Rattle.prt_diff.specs.Routes.{agrees, has_agreeing, is_kept, kept_routes, leaves_dev, managed_routes}
 use Rattle.prt_diff.specs.Rules.{coming_rules, going_rules, has_lower_priority, rules_at, stays, with_rule, without_id, without_rule}
 use Rattle.prt_diff.specs.declared.fence.Fence.{Fence}
-use Rattle.prt_diff.proofs.Along.{all, barring, barring_apart, barring_is, clear_plan, coming_is, coming_last, coming_missing, coming_wanted, is_coming, is_kept_one, each_if, early, either, false_by, fourth_plan, going_apart, last_routes, late, missing_come, negated, not_unwanted, same_of_key, second_plan, third_plan, first_plan, unwanted, wanted_ones, wanted_rise}
+use Rattle.prt_diff.proofs.Along.{all, barring, barring_apart, barring_is, clear_plan, coming_is, coming_last, coming_missing, coming_wanted, is_coming, is_kept_one, early, fourth_plan, going_apart, last_routes, late, missing_come, not_unwanted, second_plan, third_plan, first_plan, unwanted, wanted_ones, wanted_rise}
 use Rattle.prt_diff.proofs.HasRule.{has_like, like_left, same_itself, same_within}
-use Rattle.prt_diff.proofs.Members.{IsIn, any_in, differ, each_in, in_any, passed, passing}
+use Rattle.prt_diff.proofs.Members.{IsIn, any_in, differ, each_if, each_in, either, false_by, in_any, negated, passed, passing}
 use Rattle.prt_diff.proofs.PlanSteps.{bring_has, bring_keeps, brought_cases, clear_keeps, cleared_cases, remove_gone, remove_keeps, remove_tells, removed_cases}
-use Rattle.prt_diff.proofs.RouteSteps.{filtered_insert, filtered_without, has_its_key, has_one, one_of, put_from, puts_pass, stays_in}
+use Rattle.prt_diff.proofs.RouteSteps.{filtered_insert, filtered_without, has_its_key, has_one, one_of, put_from, puts_pass, same_of_key, stays_in}
 use Rattle.prt_diff.proofs.SameRoutes.{addresses, kinds, options}
 
 pub or_last : (a b : Bool) → b ≡ true → (a || b) ≡ true

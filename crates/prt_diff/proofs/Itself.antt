@@ -17,12 +17,11 @@ use Rattle.prt_diff.specs.Plan.{Plan, bring_all, changes, clear_all, delete_rout
 use Rattle.prt_diff.specs.Routes.{agrees, early_routes, has_agreeing, in_turn, is_kept, kept_routes, late_routes, managed_routes, missing_routes, unwanted_routes, wanted_routes}
 use Rattle.prt_diff.specs.Rules.{barring_rules, bars_one, coming_rules, going_rules, is_kept_rule, new_rules, rules_at}
 use Rattle.prt_diff.specs.declared.fence.Fence.{Fence}
-use Rattle.prt_diff.proofs.Along.{each_if, false_by, negated, same_of_key}
 use Rattle.prt_diff.proofs.End.{agrees_itself}
 use Rattle.prt_diff.proofs.HasRule.{same_itself}
-use Rattle.prt_diff.proofs.Members.{IsIn, any_in, differ, none_left, none_pass, passed, passing}
+use Rattle.prt_diff.proofs.Members.{IsIn, any_in, differ, each_if, false_by, negated, none_left, none_pass, passed, passing}
 use Rattle.prt_diff.proofs.Order.{same_stays}
-use Rattle.prt_diff.proofs.RouteSteps.{has_its_key, one_of}
+use Rattle.prt_diff.proofs.RouteSteps.{has_its_key, one_of, same_of_key}
 use Rattle.prt_diff.proofs.Settled.{no_turn}
 
 not_both : (a b : Bool) → b ≡ true → (a && not b) ≡ false

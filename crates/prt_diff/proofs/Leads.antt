@@ -37,7 +37,7 @@ put_count state (change.RulePut rule) = refl
 put_count state (change.RuleDrop id) = refl
 put_count state change.RuleFlush = refl
 
-put_sound : (state : State) (command : Command) (made : Change) → IsSound state → check state command ≡ Ok made → IsSound (put state made)
+pub put_sound : (state : State) (command : Command) (made : Change) → IsSound state → check state command ≡ Ok made → IsSound (put state made)
 put_sound state command made sound is =
     subst (λ n. IsSound (record { count = n; rules = (put state made).rules; routes = (put state made).routes })) (sym (put_count state made))
     (next_sound state state made (put state made).rules (put state made).routes refl sound (record { command = command; makes = is }) refl refl)

@@ -19,3 +19,4 @@ pub mod Order
 pub mod Settled
 pub mod Itself
 pub mod SameRoutes
+pub mod Applying

@@ -4,6 +4,7 @@ use Rattle.std.specs.Prelude.{filter}
 use Rattle.std.specs.List.{Contains, list_any, AllByRecursion as Each, IsDistinct}
 use Rattle.std.proofs.lemmas.List.Elements.{All-from_recursion, All-contains, Contains-get_or, filter_passes, recursion_from_All}
 use Rattle.prt_addr.specs.Order.{insert_by}
+use Rattle.prt_addr.proofs.Each.{each_implies}
 
 pub each_both : {X : Type 0} (P Q R : X → Type 0) → ((x : X) → P x → Q x → R x) → (xs : List X) → Each P xs → Each Q xs → Each R xs
 each_both P Q R gives [] p q = tt
@@ -19,6 +20,18 @@ each_of P holds (x ∷ xs) = (holds x, each_of P holds xs)
 
 pub differ : {A : Type 0} → true ≡ false → A
 differ h = absurd (let n : true ≡ false = h in cc)
+
+pub negated : (b : Bool) → not b ≡ true → b ≡ false
+negated true is = differ (sym is)
+negated false is = refl
+
+pub either : (b : Bool) → (b ≡ true) ⊎ (b ≡ false)
+either true = inl refl
+either false = inr refl
+
+pub false_by : (b : Bool) → (b ≡ true → ⊥) → b ≡ false
+false_by true never = absurd (never refl)
+false_by false never = refl
 
 -- ---- members
 
@@ -39,6 +52,9 @@ each_itself xs = among xs xs (λ x h. h)
     among all [] within = tt
     among all (x ∷ xs) within = (within x (inl refl), among all xs (λ y h. within y (inr h)))
 
+pub each_if : {X : Type 0} (P : X → Type 0) (xs : List X) → ((x : X) → IsIn x xs → P x) → Each P xs
+each_if P xs gives = each_implies (λ x. IsIn x xs) P gives xs (each_itself xs)
+
 pub in_contains : {X : Type 0} (x : X) (xs : List X) → IsIn x xs → Contains xs x
 in_contains x xs h = each_in (Contains xs) x xs (recursion_from_All (Contains xs) xs (λ k d inside. Contains-get_or xs k d inside)) h
 
@@ -58,6 +74,17 @@ pub in_either : {X : Type 0} (x : X) (xs ys : List X) → IsIn x (xs ++ ys) → 
 in_either x [] ys h = inr h
 in_either x (y ∷ xs) ys (inl is) = inl (inl is)
 in_either x (y ∷ xs) ys (inr h) = elim (in_either x xs ys h) [ inl a ↦ inl (inr a) | inr b ↦ inr b ]
+
+-- the lists before and after a member
+pub record Parts {X : Type 0} (x : X) (xs : List X) : Type 0 where
+  pub front : List X
+  pub back : List X
+  pub whole : xs ≡ front ++ x ∷ back
+
+pub parts_at : {X : Type 0} (x : X) (xs : List X) → IsIn x xs → Parts x xs
+parts_at x [] h = absurd h
+parts_at x (y ∷ ys) (inl is) = record { front = []; back = ys; whole = ap (λ z. z ∷ ys) (sym is) }
+parts_at x (y ∷ ys) (inr h) = let rest = parts_at x ys h in record { front = y ∷ rest.front; back = rest.back; whole = ap (λ zs. y ∷ zs) rest.whole }
 
 -- ---- those that pass a test
 
@@ -118,11 +145,11 @@ none_pass p [] h = refl
 none_pass p (x ∷ xs) h = ap (λ b. cond b (x ∷ filter p xs) (filter p xs)) h.0 ∙ none_pass p xs h.1
 
 pub none_left : {X : Type 0} (p : X → Bool) (xs : List X) → Each (λ x. p x ≡ true) xs → filter (λ x. not (p x)) xs ≡ []
-none_left p xs h = none_pass (λ x. not (p x)) xs (negated p xs h)
+none_left p xs h = none_pass (λ x. not (p x)) xs (each_negated p xs h)
   where
-    negated : {X : Type 0} (p : X → Bool) (xs : List X) → Each (λ x. p x ≡ true) xs → Each (λ x. not (p x) ≡ false) xs
-    negated p [] h = tt
-    negated p (x ∷ xs) h = (ap not h.0, negated p xs h.1)
+    each_negated : {X : Type 0} (p : X → Bool) (xs : List X) → Each (λ x. p x ≡ true) xs → Each (λ x. not (p x) ≡ false) xs
+    each_negated p [] h = tt
+    each_negated p (x ∷ xs) h = (ap not h.0, each_negated p xs h.1)
 
 -- two tests one after the other
 both_by : {X : Type 0} (p q : X → Bool) (x : X) (xs : List X) (b : Bool) → filter q (filter p xs) ≡ filter (λ x. p x && q x) xs → filter q (cond b (x ∷ filter p xs) (filter p xs)) ≡ cond (b && q x) (x ∷ filter (λ x. p x && q x) xs) (filter (λ x. p x && q x) xs)

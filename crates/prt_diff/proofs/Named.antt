@@ -112,7 +112,7 @@ not_named rule other fails = by (is_named (whole_choice rule) other) refl
     by true is = differ (sym (named_takes rule other is) ∙ fails)
     by false is = refl
 
-finds : {X : Type 0} (p : X → Bool) (xs : List X) (y : X) (zs : List X) → Each (λ x. p x ≡ false) xs → p y ≡ true → find p (xs ++ y ∷ zs) ≡ Some y
+pub finds : {X : Type 0} (p : X → Bool) (xs : List X) (y : X) (zs : List X) → Each (λ x. p x ≡ false) xs → p y ≡ true → find p (xs ++ y ∷ zs) ≡ Some y
 finds p [] y zs h passes = simp passes refl
 finds p (x ∷ xs) y zs h passes = simp h.0 (finds p xs y zs h.1 passes)
 

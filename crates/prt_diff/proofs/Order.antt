@@ -15,10 +15,9 @@ use Rattle.prt_version.specs.Change.{has_rule}
 use Rattle.prt_diff.specs.Between.{AreSame}
 use Rattle.prt_diff.specs.Plan.{Plan, bring_all, brought, clear_all, cleared, remove_all, removed}
 use Rattle.prt_diff.specs.Rules.{has_lower_priority, rules_at, stays, with_rule, without_id, without_rule}
-use Rattle.prt_diff.proofs.Along.{false_by}
 use Rattle.prt_diff.proofs.End.{stays_has}
-use Rattle.prt_diff.proofs.HasRule.{like_left}
-use Rattle.prt_diff.proofs.Members.{IsIn, all_pass, differ, each_in, each_of, filtered_twice, none_pass}
+use Rattle.prt_diff.proofs.HasRule.{like_left, numbered}
+use Rattle.prt_diff.proofs.Members.{IsIn, all_pass, differ, each_in, each_of, false_by, filtered_twice, none_pass}
 use Rattle.prt_diff.proofs.PlanSteps.{bring_left, brought_cases, cleared_cases, has_last, remove_left, removed_cases}
 use Rattle.prt_diff.proofs.RuleClasses.{RisesByPriority, none_below}
 
@@ -232,9 +231,6 @@ same_head a b rules others same = cc
 
 same_tail : (a b : Rule) (rules others : List Rule) → AreSame (a ∷ rules) (b ∷ others) → AreSame rules others
 same_tail a b rules others same = cc
-
-abbrev numbered : ℕ → Rule → Rule
-numbered id rule = record rule { id = id }
 
 same_stays_by : (rule first : Rule) (found wanted : List Rule) (b : Bool) → b ≡ true → (has_rule rule wanted ≡ true → stays rule found wanted ≡ true) → has_rule rule (first ∷ wanted) ≡ true → cond b (is_same_rule first rule || stays rule found wanted) (stays rule found (first ∷ wanted)) ≡ true
 same_stays_by rule first found wanted true is rest has = by (is_same_rule first rule) has

@@ -23,7 +23,7 @@ use Rattle.prt_diff.specs.Plan.{Plan, added, deleted}
 use Rattle.prt_diff.specs.Rules.{add_rule, delete_rule, is_first_taken, whole_choice, with_rule, without_id, without_rule}
 use Rattle.prt_diff.proofs.HasRule.{IsTaken, has_like, has_with, has_without, like_right, numbered, same_first, same_has, same_put, same_without, taken_at}
 use Rattle.prt_diff.proofs.Leads.{Leads, has_room, leads_on}
-use Rattle.prt_diff.proofs.Members.{IsIn, apart_at, contains_in, differ, in_contains, without_one}
+use Rattle.prt_diff.proofs.Members.{IsIn, apart_at, contains_in, differ, false_by, in_contains, without_one}
 use Rattle.prt_diff.proofs.Named.{takes_it}
 
 -- ---- between both ends
@@ -112,10 +112,6 @@ other_by a b first second = cc
 second_of : (a b : Bool) → (not a && b) ≡ true → b ≡ true
 second_of true b is = differ (sym is)
 second_of false b is = is
-
-false_by : (b : Bool) → (b ≡ true → ⊥) → b ≡ false
-false_by true never = absurd (never refl)
-false_by false never = refl
 
 without_between : (found end : State) (moved : List Rule) (rule : Rule) (rules : List Rule) → ((has_rule rule end.rules ≡ false) ⊎ (has_rule rule moved ≡ true)) → RulesBetween found end moved rules → RulesBetween found end moved (without_rule rule rules)
 without_between found end moved rule rules goes between = record {

@@ -31,14 +31,14 @@ use Rattle.prt_diff.specs.Between.{IsBetween}
 use Rattle.prt_diff.specs.Plan.{Plan, delete_routes, replace_routes}
 use Rattle.prt_diff.specs.Routes.{choice_of, delete_route, named_metric, put_all, replace_route}
 use Rattle.prt_diff.proofs.Leads.{has_room, leads_on}
-use Rattle.prt_diff.proofs.Members.{IsIn, all_pass, any_in, apart_at, differ, each_split, in_any, inserted, inserting, none_pass, passed, passing, without_one}
+use Rattle.prt_diff.proofs.Members.{IsIn, all_pass, any_in, apart_at, differ, each_in, each_split, either, in_any, inserted, inserting, negated, none_pass, passed, passing, without_one}
 use Rattle.prt_diff.proofs.Reached.{Reached, RoutesBetween, is_between}
 
 -- the routes after one is put
 abbrev pub put_one : Route → List Route → List Route
 put_one route routes = after_edit (Put route) routes
 
-not_false : (b : Bool) → b ≡ false → not b ≡ true
+pub not_false : (b : Bool) → b ≡ false → not b ≡ true
 not_false b is = ap not is
 
 -- ---- there are no fewer after it
@@ -70,7 +70,7 @@ all_rise [] routes rises = rises
 all_rise (route ∷ todo) routes rises = all_rise todo (put_one route routes) (edit_rises (Put route) routes rises)
 
 -- a route of a new key is one more
-one_more_route : (route : Route) (routes : List Route) → has_key (key_of route) routes ≡ false → length (put_one route routes) ≡ length routes + 1
+pub one_more_route : (route : Route) (routes : List Route) → has_key (key_of route) routes ≡ false → length (put_one route routes) ≡ length routes + 1
 one_more_route route routes absent =
     let all : without_key (key_of route) routes ≡ routes = all_pass (λ other. not (has_same_key other route)) routes (each_implies (λ other. has_same_key other route ≡ false) (λ other. not (has_same_key other route) ≡ true) (λ other. not_false (has_same_key other route)) routes (each_fails (λ other. has_same_key other route) routes absent)) in
     length_inserted is_listed_before route (without_key (key_of route) routes) ∙ ap (λ xs. length xs + 1) all
@@ -83,7 +83,7 @@ replace_by count routes route false room counts =
     ap (λ b. unless_count_full count (if b then Ok (change.Route (Put route)) else Err Full)) (has_room (length routes) MOST_ROUTES (room refl))
     ∙ ap (λ b. if b then Ok (change.Route (Put route)) else Err CountFull) (has_room count MOST_COMMANDS counts)
 
-replace_checked : (state : State) (route : Route) → (has_key (key_of route) state.routes ≡ false → length state.routes < MOST_ROUTES) → state.count < MOST_COMMANDS → check state (replace_route route) ≡ Ok (change.Route (Put route))
+pub replace_checked : (state : State) (route : Route) → (has_key (key_of route) state.routes ≡ false → length state.routes < MOST_ROUTES) → state.count < MOST_COMMANDS → check state (replace_route route) ≡ Ok (change.Route (Put route))
 replace_checked state route room counts = replace_by state.count state.routes route (has_key (key_of route) state.routes) room counts
 
 -- one has the key, if the other list has one that has it
@@ -98,14 +98,10 @@ one_of key routes has = let p = in_any (λ (route : Route). is_same_key (key_of 
 pub has_one : (key : RouteKey) (route : Route) (routes : List Route) → IsIn route routes → is_same_key (key_of route) key ≡ true → has_key key routes ≡ true
 has_one key route routes within same = any_in (λ (other : Route). is_same_key (key_of other) key) route routes within same
 
-either : (b : Bool) → (b ≡ true) ⊎ (b ≡ false)
-either true = inl refl
-either false = inr refl
-
-keys_chain : (a b : Route) (key : RouteKey) → has_same_key a b ≡ true → is_same_key (key_of a) key ≡ true → is_same_key (key_of b) key ≡ true
+pub keys_chain : (a b : Route) (key : RouteKey) → has_same_key a b ≡ true → is_same_key (key_of a) key ≡ true → is_same_key (key_of b) key ≡ true
 keys_chain a b key same is = grind (arith, nat_tests, same, is)
 
-stays_or_put : (route other : Route) (routes : List Route) (key : RouteKey) → IsIn other routes → is_same_key (key_of other) key ≡ true → has_key key (put_one route routes) ≡ true
+pub stays_or_put : (route other : Route) (routes : List Route) (key : RouteKey) → IsIn other routes → is_same_key (key_of other) key ≡ true → has_key key (put_one route routes) ≡ true
 stays_or_put route other routes key within same =
     elim (either (has_same_key other route)) [
       | inl here ↦ has_one key route (put_one route routes) (inserting is_listed_before route route (without_key (key_of route) routes) (inl refl)) (keys_chain other route key here same)
@@ -186,10 +182,6 @@ put_from route (other ∷ todo) routes within =
         | inr old ↦ (let p = passed (λ x. not (has_same_key x other)) route routes old in inr (p.0, ap (λ b. b || has_key (key_of route) todo) (keys_both_ways other route ∙ negated (has_same_key route other) p.1) ∙ both.1))
       ]
     ]
-  where
-    negated : (b : Bool) → not b ≡ true → b ≡ false
-    negated true is = differ (sym is)
-    negated false is = refl
 
 -- ---- those that pass a test, which no route that is put passes
 
@@ -262,7 +254,7 @@ rising_at : (xs : List Route) (y : Route) (zs : List Route) → IsRising is_list
 rising_at [] y zs rises = tt
 rising_at (x ∷ xs) y zs rises = ((each_split (λ z. is_listed_before x z ≡ true) xs (y ∷ zs) rises.0).1.0, rising_at xs y zs rises.1)
 
-chosen_first : (xs : List Route) (route : Route) (zs : List Route) → IsRising is_listed_before (xs ++ route ∷ zs) → chosen_route (choice_of route) (xs ++ route ∷ zs) ≡ Some route
+pub chosen_first : (xs : List Route) (route : Route) (zs : List Route) → IsRising is_listed_before (xs ++ route ∷ zs) → chosen_route (choice_of route) (xs ++ route ∷ zs) ≡ Some route
 chosen_first xs route zs rises =
     let chosen : Route → Bool = is_chosen (choice_of route) in
     let none : filter chosen xs ≡ [] = none_pass chosen xs (each_implies (λ x. is_listed_before x route ≡ true) (λ x. is_chosen (choice_of route) x ≡ false) (λ x ahead. taken route x ∙ earlier route x ahead) xs (rising_at xs route zs rises)) in
@@ -278,9 +270,22 @@ chosen_first xs route zs rises =
     anything [] = tt
     anything (z ∷ zs) = (tt, anything zs)
 
+-- ---- one route a key
+
+pub same_of_key : (routes : List Route) (a b : Route) → IsRising is_listed_before routes → IsIn a routes → IsIn b routes → has_same_key a b ≡ true → a ≡ b
+same_of_key [] a b rises a_in b_in same = absurd a_in
+same_of_key (route ∷ routes) a b rises (inl a_is) (inl b_is) same = a_is ∙ sym b_is
+same_of_key (route ∷ routes) a b rises (inl a_is) (inr b_in) same =
+    let ahead : is_listed_before route b ≡ true = each_in (λ x. is_listed_before route x ≡ true) b routes rises.0 b_in in
+    differ (sym same ∙ ap (λ x. has_same_key x b) a_is ∙ key_differs route b ahead)
+same_of_key (route ∷ routes) a b rises (inr a_in) (inl b_is) same =
+    let ahead : is_listed_before route a ≡ true = each_in (λ x. is_listed_before route x ≡ true) a routes rises.0 a_in in
+    differ (sym same ∙ ap (λ x. has_same_key a x) b_is ∙ keys_both_ways a route ∙ key_differs route a ahead)
+same_of_key (route ∷ routes) a b rises (inr a_in) (inr b_in) same = same_of_key routes a b rises.1 a_in b_in same
+
 -- ---- a route is deleted
 
-delete_checked : (state : State) (route : Route) → chosen_route (choice_of route) state.routes ≡ Some route → state.count < MOST_COMMANDS → check state (delete_route route) ≡ Ok (change.Route (Remove (key_of route)))
+pub delete_checked : (state : State) (route : Route) → chosen_route (choice_of route) state.routes ≡ Some route → state.count < MOST_COMMANDS → check state (delete_route route) ≡ Ok (change.Route (Remove (key_of route)))
 delete_checked state route chosen counts =
     ap (λ o. unless_count_full state.count (ok_or (option_map (λ (found : Route). change.Route (Remove (key_of found))) o) NoSuch)) chosen
     ∙ ap (λ b. if b then Ok (change.Route (Remove (key_of route))) else Err CountFull) (has_room state.count MOST_COMMANDS counts)

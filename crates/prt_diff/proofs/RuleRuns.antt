@@ -19,7 +19,7 @@ use Rattle.prt_diff.proofs.Members.{all_pass, each_both, none_pass}
 abbrev pub priority_of : Rule → ℕ
 priority_of rule = rule.priority
 
-no_lower : (a b : Rule) → is_before a b ≡ true → a.priority ≤ b.priority
+pub no_lower : (a b : Rule) → is_before a b ≡ true → a.priority ≤ b.priority
 no_lower a b ahead = grind (arith, nat_tests, ahead)
 
 priorities_rise : (rules : List Rule) → IsRising is_before rules → IsNonDecreasingBy priority_of rules
@@ -34,12 +34,12 @@ rest_parted rules start priority rises =
     (IsPartitionedBy-leb priority_of (drop start rules) priority (IsNonDecreasingBy-drop priority_of start rules (priorities_rise rules rises)))
 
 -- what a partition point says of the two parts
-front_passes : (p : Rule → Bool) (rules : List Rule) (place : ℕ) → place ≤ length rules → IsPartitionPoint (λ rule. p rule ≡ true) (λ rule. p rule ≡ false) rules place → Each (λ rule. p rule ≡ true) (take place rules)
+pub front_passes : (p : Rule → Bool) (rules : List Rule) (place : ℕ) → place ≤ length rules → IsPartitionPoint (λ rule. p rule ≡ true) (λ rule. p rule ≡ false) rules place → Each (λ rule. p rule ≡ true) (take place rules)
 front_passes p rules place bound point =
     recursion_from_All (λ rule. p rule ≡ true) (take place rules)
     (λ k d inside. let l : length (take place rules) ≡ place = length-take-le place rules bound in ap p (get_or-take place rules k d (omega (arith, l, inside))) ∙ point.0 k d (omega arith) (omega (arith, l, inside)))
 
-back_fails : (p : Rule → Bool) (rules : List Rule) (place : ℕ) → IsPartitionPoint (λ rule. p rule ≡ true) (λ rule. p rule ≡ false) rules place → Each (λ rule. p rule ≡ false) (drop place rules)
+pub back_fails : (p : Rule → Bool) (rules : List Rule) (place : ℕ) → IsPartitionPoint (λ rule. p rule ≡ true) (λ rule. p rule ≡ false) rules place → Each (λ rule. p rule ≡ false) (drop place rules)
 back_fails p rules place point =
     recursion_from_All (λ rule. p rule ≡ false) (drop place rules)
     (λ k d inside. let l : length (drop place rules) ≡ length rules - place = length-drop place rules in ap p (get_or-drop place rules k d) ∙ point.1 (place + k) d (omega arith) (omega (arith, l, inside)))

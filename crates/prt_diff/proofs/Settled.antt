@@ -21,10 +21,10 @@ use Rattle.prt_diff.specs.Plan.{Plan, bring_all, changes, clear_all, delete_rout
 use Rattle.prt_diff.specs.Routes.{agrees, early_routes, has_agreeing, highest_first, in_turn, kept_routes, late_routes, managed_routes, missing_routes, unwanted_routes, wanted_routes}
 use Rattle.prt_diff.specs.Rules.{barring_rules, bars_one, coming_rules, going_rules, is_kept_rule, new_rules, rules_at, stays, without_id}
 use Rattle.prt_diff.specs.declared.fence.Fence.{Fence}
-use Rattle.prt_diff.proofs.Along.{barring, barring_apart, clear_plan, coming_is, each_if, false_by, first_plan, fourth_plan, going_apart, is_coming, is_kept_one, last_routes, reached, second_plan, third_plan, wanted_ones}
+use Rattle.prt_diff.proofs.Along.{barring, barring_apart, clear_plan, coming_is, first_plan, fourth_plan, going_apart, is_coming, is_kept_one, last_routes, reached, second_plan, third_plan, wanted_ones}
 use Rattle.prt_diff.proofs.End.{agreeing_key, beyond_same, clear_filtered, comes_within, end_routes_are_sought, has_filtered, kept_same, routes_are_there, same_filtered, sought_or_left, there}
 use Rattle.prt_diff.proofs.HasRule.{has_like, same_has, same_itself, same_within}
-use Rattle.prt_diff.proofs.Members.{IsIn, all_pass, any_in, differ, each_in, filtered_twice, in_any, none_left, none_pass, passed, passing}
+use Rattle.prt_diff.proofs.Members.{IsIn, all_pass, any_in, differ, each_if, each_in, false_by, filtered_twice, in_any, none_left, none_pass, passed, passing}
 use Rattle.prt_diff.proofs.Order.{bring_places, clear_rises, drop_all, drops_all, filter_same, filters_commute, minus, place_all, place_at, remove_drops, rises_filtered, rises_placed, same_stays, stays_run, stays_wanted}
 use Rattle.prt_diff.proofs.PlanSteps.{bring_keeps, remove_left}
 use Rattle.prt_diff.proofs.RuleClasses.{RisesByPriority, rises_by_priority, same_by_priority}

@@ -32,7 +32,8 @@ EachState P state (command ∷ commands) = P state × EachState P (apply state c
 
 -- What both ends have is there, except rules that move. What is there, one of the ends has.
 pub record IsBetween (found end : State) (moved : List Rule) (state : State) : Type 0 where
-  pub rules_of_both : (rule : Rule) → has_rule rule found.rules ≡ true → has_rule rule end.rules ≡ true → has_rule rule moved ≡ false → has_rule rule state.rules ≡ true
+  pub rules_of_both : (rule : Rule) → has_rule rule found.rules ≡ true → has_rule rule end.rules ≡ true → has_rule rule moved ≡ false →
+      has_rule rule state.rules ≡ true
   pub rules_of_one : (rule : Rule) → has_rule rule state.rules ≡ true → (has_rule rule found.rules ≡ true) ⊎ (has_rule rule end.rules ≡ true)
   pub keys_of_both : (key : RouteKey) → has_key key found.routes ≡ true → has_key key end.routes ≡ true → has_key key state.routes ≡ true
   pub routes_of_one : (route : Route) → Contains state.routes route → Contains found.routes route ⊎ Contains end.routes route
@@ -50,11 +51,13 @@ rules_beyond fence rules = filter (λ rule. not (is_rule_within fence rule)) rul
 pub record IsBrought (fence : Fence) (found wanted end : State) (left : List Rule) : Type 0 where
   pub rules_kept : AreSame (rules_beyond fence end.rules) (rules_beyond fence found.rules)
   pub rules_there : (rule : Rule) → is_rule_within fence rule ≡ true → has_rule rule wanted.rules ≡ true → has_rule rule end.rules ≡ true
-  pub rules_wanted : (rule : Rule) → is_rule_within fence rule ≡ true → has_rule rule end.rules ≡ true → (has_rule rule wanted.rules ≡ true) ⊎ (has_rule rule left ≡ true)
+  pub rules_wanted : (rule : Rule) → is_rule_within fence rule ≡ true → has_rule rule end.rules ≡ true →
+      (has_rule rule wanted.rules ≡ true) ⊎ (has_rule rule left ≡ true)
   pub rules_in_order : left ≡ [] → AreSame (rules_within fence end.rules) (rules_within fence wanted.rules)
   pub routes_kept : kept_routes fence end.routes ≡ kept_routes fence found.routes
   pub routes_there : Each (λ route. has_agreeing route end.routes ≡ true) (wanted_routes fence found.routes wanted.routes)
-  pub routes_wanted : Each (λ route. list_any (λ one. agrees one route) (wanted_routes fence found.routes wanted.routes) ≡ true) (managed_routes fence end.routes)
+  pub routes_wanted : Each (λ route. list_any (λ one. agrees one route) (wanted_routes fence found.routes wanted.routes) ≡ true)
+      (managed_routes fence end.routes)
 
 -- the state after the changes
 abbrev pub end_of : Fence → State → State → State

@@ -35,7 +35,8 @@ is_unread_rule fence rule = is_unread_priority fence rule.priority && is_meant_r
 
 -- Routes that are wanted and not brought: one that may not be changed has their key, and doesn't serve for them.
 abbrev pub blocked_routes : Fence → List Route → List Route → List Route
-blocked_routes fence found wanted = filter (λ route. has_key (key_of route) (kept_routes fence found) && not (has_serving route found)) (managed_routes fence wanted)
+blocked_routes fence found wanted =
+    filter (λ route. has_key (key_of route) (kept_routes fence found) && not (has_serving route found)) (managed_routes fence wanted)
 
 -- Routes that are wanted and not brought: a line that can't be kept has their key.
 abbrev pub hindered_routes : Fence → List Route → List Route → List Route

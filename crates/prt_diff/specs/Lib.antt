@@ -9,3 +9,4 @@ pub mod Held
 pub mod Between
 pub mod Text
 pub mod Replacing
+pub mod Apply

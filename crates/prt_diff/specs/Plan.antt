@@ -20,7 +20,14 @@ pub record Plan : Type 0 where
   pub early : List Rule
 
 abbrev pub plan_of : Changes → Plan
-plan_of changes = record { commands = changes.commands.items; rules = changes.rules.items; moved = changes.moved.items; left = changes.left.items; early = changes.early.items }
+plan_of changes = record {
+  commands = changes.commands.items;
+  rules = changes.rules.items;
+  moved = changes.moved.items;
+  left =
+      changes.left.items;
+  early = changes.early.items;
+}
 
 -- ---- one rule
 
@@ -61,7 +68,8 @@ cleared rule plan = if is_first_taken rule plan.rules then deleted_early rule pl
 -- all routes that come or change
 abbrev pub coming_routes : Fence → State → State → List Route
 coming_routes fence found wanted =
-    in_turn (early_routes found.rules (missing_routes fence found.routes wanted.routes)) ++ in_turn (late_routes found.rules (missing_routes fence found.routes wanted.routes))
+    in_turn (early_routes found.rules (missing_routes fence found.routes wanted.routes))
+    ++ in_turn (late_routes found.rules (missing_routes fence found.routes wanted.routes))
 
 abbrev pub bring_all : List Rule → Plan → Plan
 bring_all [] plan = plan

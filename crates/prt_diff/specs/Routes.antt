@@ -1,5 +1,6 @@
 -- Which routes differ: ip-route(8).
-use Rattle.std.specs.Prelude.{ℕ, zero, suc, ◌+◌, Bool, false, not, ◌&&◌, ◌||◌, ◌==◌, nat_le, if◌then◌else◌, List, [], ◌∷◌, ◌++◌, filter, Option, Some, None, is_none, is_some, bytes_eq}
+use Rattle.std.specs.Prelude.{ℕ, zero, suc, ◌+◌, Bool, false, not, ◌&&◌, ◌||◌, ◌==◌, nat_le, if◌then◌else◌, List, [], ◌∷◌, ◌++◌, filter, Option}
+use Rattle.std.specs.Prelude.{Some, None, is_none, is_some, bytes_eq}
 use Rattle.std.specs.List.{list_any}
 use Rattle.std.specs.Option.{option_eq}
 use Rattle.prt_route.specs.Edit.{after_edit, has_key}
@@ -47,7 +48,9 @@ agrees_on_src wanted found = (leaves_dev wanted && is_none wanted.src) || option
 
 -- The route that is found is as it is wanted. What the kernel fills in is no difference.
 abbrev pub agrees : Route → Route → Bool
-agrees wanted found = is_same_key (key_of wanted) (key_of found) && is_same_kind wanted.kind found.kind && option_eq is_same_addr wanted.via found.via && agrees_on_dev wanted found && agrees_on_src wanted found && wanted.proto == found.proto && wanted.scope == found.scope
+agrees wanted found = is_same_key (key_of wanted) (key_of found) && is_same_kind wanted.kind found.kind
+    && option_eq is_same_addr wanted.via found.via && agrees_on_dev wanted found && agrees_on_src wanted found
+    && wanted.proto == found.proto && wanted.scope == found.scope
 
 abbrev pub has_agreeing : Route → List Route → Bool
 has_agreeing route routes = list_any (agrees route) routes
@@ -75,7 +78,8 @@ is_looked_up rules table = list_any (is_lookup_of table) rules
 
 -- the rule looks up main for every packet
 abbrev pub is_main_rule : Rule → Bool
-is_main_rule rule = not rule.inverted && rule.from.len == 0 && rule.to.len == 0 && is_none rule.iif && is_none rule.mark && is_none rule.suppress && is_lookup_of main_table rule
+is_main_rule rule = not rule.inverted && rule.from.len == 0 && rule.to.len == 0 && is_none rule.iif && is_none rule.mark
+    && is_none rule.suppress && is_lookup_of main_table rule
 
 -- the route may reach a gateway of another, and a rule that is found looks up its table
 abbrev pub is_late_link : List Rule → Route → Bool
@@ -119,7 +123,18 @@ named_metric metric = if metric == 0 then None else Some metric
 
 -- the route by its key
 abbrev pub choice_of : Route → RouteChoice
-choice_of route = record { table = route.table; prefix = route.prefix; metric = named_metric route.metric; kind = None; via = None; dev = None; src = None; proto = None; scope = None }
+choice_of route = record {
+  table = route.table;
+  prefix = route.prefix;
+  metric = named_metric route.metric;
+  kind = None;
+  via = None;
+  dev =
+      None;
+  src = None;
+  proto = None;
+  scope = None;
+}
 
 abbrev pub delete_route : Route → Command
 delete_route route = RouteDel (choice_of route)

@@ -27,14 +27,34 @@ rules_at priority rules = filter (λ rule. rule.priority == priority) rules
 -- ---- the commands
 
 abbrev pub new_rule : Rule → NewRule
-new_rule rule = record { priority = Some rule.priority; inverted = rule.inverted; from = rule.from; to = rule.to; iif = rule.iif; mark = rule.mark; action = rule.action; suppress = rule.suppress }
+new_rule rule = record {
+  priority = Some rule.priority;
+  inverted = rule.inverted;
+  from = rule.from;
+  to = rule.to;
+  iif = rule.iif;
+  mark =
+      rule.mark;
+  action = rule.action;
+  suppress = rule.suppress;
+}
 
 abbrev pub add_rule : Rule → Command
 add_rule rule = RuleAdd (new_rule rule)
 
 -- all that the rule has
 abbrev pub whole_choice : Rule → RuleChoice
-whole_choice rule = record { priority = Some rule.priority; inverted = rule.inverted; from = Some rule.from; to = Some rule.to; iif = rule.iif; mark = rule.mark; action = Some rule.action; suppress = rule.suppress }
+whole_choice rule = record {
+  priority = Some rule.priority;
+  inverted = rule.inverted;
+  from = Some rule.from;
+  to = Some rule.to;
+  iif =
+      rule.iif;
+  mark = rule.mark;
+  action = Some rule.action;
+  suppress = rule.suppress;
+}
 
 abbrev pub delete_rule : Rule → Command
 delete_rule rule = RuleDel (whole_choice rule)
@@ -95,7 +115,8 @@ bars new other =
 abbrev pub stays : Rule → List Rule → List Rule → Bool
 stays rule [] wanted = false
 stays rule (other ∷ found) [] = false
-stays rule (other ∷ found) (first ∷ wanted) = if is_same_rule other first then is_same_rule first rule || stays rule found wanted else stays rule found (first ∷ wanted)
+stays rule (other ∷ found) (first ∷ wanted) =
+    if is_same_rule other first then is_same_rule first rule || stays rule found wanted else stays rule found (first ∷ wanted)
 
 -- the rule stays among those of its priority
 abbrev pub is_kept_rule : List Rule → List Rule → Rule → Bool

@@ -31,7 +31,8 @@ abbrev pub staying_routes : Fence → List Route → List Route → List Route
 staying_routes fence found wanted = filter (λ route. names_route fence route && is_unreadable_route route && not (has_key (key_of route) wanted)) found
 
 -- What no line brings or deletes of the changes from found rules and routes to wanted ones.
-pub record AreUnreadable (fence : Fence) (found_rules : List Rule) (found_routes : List Route) (wanted_rules : List Rule) (wanted_routes : List Route) (unreadable : Unreadable) : Type 0 where
+pub record AreUnreadable (fence : Fence) (found_rules : List Rule) (found_routes : List Route) (wanted_rules : List Rule)
+    (wanted_routes : List Route) (unreadable : Unreadable) : Type 0 where
   pub missing_rules : unreadable.missing_rules.items ≡ unreadable_rules fence wanted_rules found_rules
   pub missing_routes : unreadable.missing_routes.items ≡ missing_routes fence found_routes wanted_routes
   pub staying_rules : unreadable.staying_rules.items ≡ unreadable_rules fence found_rules wanted_rules

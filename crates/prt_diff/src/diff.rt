@@ -61,7 +61,8 @@ fn make_missing(
 ) -> Result<(), AllocError>
     requires found { IsInOrder found.now }
     requires wanted { IsInOrder wanted.now }
-    ensures { OnOk result (plan_of changes.new ≡ replace_routes (in_turn (late_routes found.now missing.now)) (bring_all (coming_rules fence.now found.now wanted.now)
+    ensures { OnOk result (plan_of changes.new
+        ≡ replace_routes (in_turn (late_routes found.now missing.now)) (bring_all (coming_rules fence.now found.now wanted.now)
         (clear_all (barring_rules fence.now found.now wanted.now) (replace_routes (in_turn (early_routes found.now missing.now)) (plan_of changes.old))))) }
 {
     changes.replace_routes(&early_routes(alloc, found, missing)?)?;

@@ -2,7 +2,8 @@
 ghost use Rattle.std.specs.Prelude.{◌≡◌, ◌&&◌, ◌++◌, ◌∷◌, [], not, OnOk, false, true};
 ghost use Rattle.prt_route.specs.Route.{is_same_key};
 ghost use Rattle.prt_diff.specs.Held.{is_unread_route, is_unread_rule};
-ghost use Rattle.prt_diff.specs.Fence.{has_number, is_allowed, is_in_fence, is_kernels, is_named, is_route_within, is_rule_within, is_safe_route, is_safe_rule, is_unread_key, is_unread_priority, names_route, names_routes, names_rule};
+ghost use Rattle.prt_diff.specs.Fence.{has_number, is_allowed, is_in_fence, is_kernels, is_named, is_route_within, is_rule_within, is_safe_route};
+ghost use Rattle.prt_diff.specs.Fence.{is_safe_rule, is_unread_key, is_unread_priority, names_route, names_routes, names_rule};
 
 use crate::names::is_plain_name;
 use prt_route::{LOCAL_TABLE, MAIN_TABLE, Route, RouteKey};

@@ -1,6 +1,7 @@
-//! What differs between two versions: the commands that bring the one to the other.
+//! What differs between two versions: the commands that bring the one to the other, in the kernel and in prt itself.
 #![tactic(auto)]
 
+pub mod apply;
 mod commands;
 mod diff;
 mod fence;

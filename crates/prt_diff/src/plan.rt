@@ -2,7 +2,8 @@
 ghost use Rattle.std.specs.Prelude.{◌≡◌, IfOk, OnOk};
 ghost use Rattle.prt_addr.specs.Rising.{IsRising};
 ghost use Rattle.prt_route.specs.Route.{is_listed_before};
-ghost use Rattle.prt_diff.specs.Plan.{added, bring_all, brought, clear_all, cleared, delete_routes, deleted, deleted_early, left, moved, moved_or_left, nothing_yet, plan_of, remove_all, removed, replace_routes};
+ghost use Rattle.prt_diff.specs.Plan.{added, bring_all, brought, clear_all, cleared, delete_routes, deleted, deleted_early, left, moved};
+ghost use Rattle.prt_diff.specs.Plan.{moved_or_left, nothing_yet, plan_of, remove_all, removed, replace_routes};
 ghost use Rattle.prt_diff.specs.Routes.{in_turn, unwanted_routes};
 ghost use Rattle.prt_diff.specs.Rules.{going_rules};
 

@@ -5,7 +5,9 @@ ghost use Rattle.prt_addr.specs.Rising.{IsRising};
 ghost use Rattle.prt_route.specs.Edit.{has_key};
 ghost use Rattle.prt_route.specs.Route.{is_listed_before, key_of};
 ghost use Rattle.prt_trie.specs.Table.{has_same_key};
-ghost use Rattle.prt_diff.specs.Routes.{agrees, agrees_on_dev, agrees_on_src, delete_route, early_routes, gateways_are_found, has_agreeing, highest_first, in_turn, is_early, is_kept, is_late_link, is_looked_up, is_lookup_of, is_main_rule, kept_routes, late_routes, leaves_dev, missing_routes, rank, replace_route, unwanted_routes, wanted_routes};
+ghost use Rattle.prt_diff.specs.Routes.{agrees, agrees_on_dev, agrees_on_src, delete_route, early_routes, gateways_are_found, has_agreeing};
+ghost use Rattle.prt_diff.specs.Routes.{highest_first, in_turn, is_early, is_kept, is_late_link, is_looked_up, is_lookup_of, is_main_rule};
+ghost use Rattle.prt_diff.specs.Routes.{kept_routes, late_routes, leaves_dev, missing_routes, rank, replace_route, unwanted_routes, wanted_routes};
 ghost use Rattle.prt_diff.specs.Serving.{has_serving, is_made_alike, serves};
 
 use crate::commands::{delete_route, replace_route};

@@ -4,7 +4,8 @@ ghost use Rattle.std.specs.List.{insert};
 ghost use Rattle.prt_rule.specs.Sound.{IsInOrder};
 ghost use Rattle.prt_version.specs.Change.{has_rule};
 ghost use Rattle.prt_diff.specs.Fence.{rules_within};
-ghost use Rattle.prt_diff.specs.Rules.{bars, bars_one, coming_rules, going_rules, has_lower_priority, is_first_taken, is_kept_rule, mark_bits, mask_bits, new_rules, rules_at, stays, takes, takes_number, takes_prefix, with_rule, without_rule};
+ghost use Rattle.prt_diff.specs.Rules.{bars, bars_one, coming_rules, going_rules, has_lower_priority, is_first_taken, is_kept_rule, mark_bits};
+ghost use Rattle.prt_diff.specs.Rules.{mask_bits, new_rules, rules_at, stays, takes, takes_number, takes_prefix, with_rule, without_rule};
 
 use crate::fence::Fence;
 use prt_addr::agrees_there;

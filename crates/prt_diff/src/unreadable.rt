@@ -2,7 +2,8 @@
 ghost use Rattle.std.specs.Prelude.{◌≡◌, IfOk, true};
 ghost use Rattle.prt_addr.specs.Rising.{IsRising};
 ghost use Rattle.prt_route.specs.Route.{is_listed_before};
-ghost use Rattle.prt_diff.specs.Unreadable.{AreUnreadable, is_nothing_unreadable, is_unreadable_route, is_unreadable_rule, missing_routes, staying_routes, unreadable_rules};
+ghost use Rattle.prt_diff.specs.Unreadable.{AreUnreadable, is_nothing_unreadable, is_unreadable_route, is_unreadable_rule, missing_routes};
+ghost use Rattle.prt_diff.specs.Unreadable.{staying_routes, unreadable_rules};
 
 use crate::fence::{Fence, is_kernels};
 use crate::names::is_plain_name;

@@ -15,7 +15,17 @@ first_rule = record { priority = Some 0; inverted = false; from = None; to = Non
 
 -- the rule as one to be added
 abbrev pub new_rule : Rule → NewRule
-new_rule rule = record { priority = Some rule.priority; inverted = rule.inverted; from = rule.from; to = rule.to; iif = rule.iif; mark = rule.mark; action = rule.action; suppress = rule.suppress }
+new_rule rule = record {
+  priority = Some rule.priority;
+  inverted = rule.inverted;
+  from = rule.from;
+  to = rule.to;
+  iif = rule.iif;
+  mark =
+      rule.mark;
+  action = rule.action;
+  suppress = rule.suppress;
+}
 
 -- the commands that add a rule and a route
 abbrev pub add_rule : Rule → Command

@@ -44,7 +44,8 @@ fn first_unplain_route(routes: &[Route]) -> Option<usize>
 ///
 /// `Rule` or `Route` with the place of the first one.
 pub(crate) fn find_unplain(rules: &[Rule], routes: &[Route]) -> Result<(), DumpError>
-    ensures plain { OnOk result ((position (λ rule. not (is_spelled (add_rule rule))) rules.now ≡ None) × (position (λ route. not (is_spelled (add_route route))) routes.now ≡ None)) }
+    ensures plain { OnOk result ((position (λ rule. not (is_spelled (add_rule rule))) rules.now ≡ None)
+        × (position (λ route. not (is_spelled (add_route route))) routes.now ≡ None)) }
     ensures reason { IfErr result (λ reason. IsWhyNot (record { count = 0; rules = rules.now; routes = routes.now }) reason) }
 {
     match first_unplain_rule(rules) {

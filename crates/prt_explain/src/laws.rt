@@ -21,17 +21,21 @@ ghost use Rattle.prt_explain.specs.Steps.{asked_text};
 /// An explanation ends with what `route get` answers. Before that come the packet's line and those of the rules that are
 /// tried.
 pub fn ends_with_answer()
-    ensures { (state : State) (packet : Packet) → explanation_text state packet ≡ packet_text packet ++ codes "\n" ++ asked_text state.rules state.routes packet ++ query_text state (Get packet) }
+    ensures { (state : State) (packet : Packet) →
+        explanation_text state packet ≡ packet_text packet ++ codes "\n" ++ asked_text state.rules state.routes packet
+        ++ query_text state (Get packet) }
 {}
 
 /// The rules that are reported are those up to the one that decides, and that one; or all of them if none decides.
 pub fn asks_up_to_decider()
-    ensures { (state : State) (packet : Packet) → IsSound state → AreAsked (decider state.rules state.routes packet) (asked_rules state.rules state.routes packet) state.rules }
+    ensures { (state : State) (packet : Packet) → IsSound state →
+        AreAsked (decider state.rules state.routes packet) (asked_rules state.rules state.routes packet) state.rules }
 {}
 
 /// A rule matches exactly if no part of its selector is reported to differ, and an inverted one exactly if one is.
 pub fn mismatch_is_told()
-    ensures { (rule : Rule) (packet : Packet) → matches rule packet ≡ (if rule.inverted then is_some (first_mismatch rule packet) else is_none (first_mismatch rule packet)) }
+    ensures { (rule : Rule) (packet : Packet) →
+        matches rule packet ≡ (if rule.inverted then is_some (first_mismatch rule packet) else is_none (first_mismatch rule packet)) }
 {}
 
 /// A matching rule that finds a route in its table decides exactly if nothing is reported of why it says nothing.

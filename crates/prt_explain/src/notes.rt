@@ -169,7 +169,9 @@ fn push_lookup_notes(
     version: &Version,
     packet: &Packet,
 ) -> Result<bool, AllocError>
-    ensures text { OnOk result (out.new.items ≡ out.old.items ++ notes_text (lookup_notes suppress table (best version.now.routes table packet.now.dst) version.now.routes packet.now.dst)) }
+    ensures text { OnOk result (out.new.items
+        ≡ out.old.items ++ notes_text (lookup_notes suppress table
+        (best version.now.routes table packet.now.dst) version.now.routes packet.now.dst)) }
     ensures decides { IfOk result (λ decides. (priority : ℕ) → decides ≡ is_some (verdict_by (Lookup table) suppress priority version.now.routes packet.now)) }
 {
     match look_up(version, table, packet.dst)? {
@@ -191,8 +193,10 @@ pub(crate) fn push_action_notes(
     version: &Version,
     packet: &Packet,
 ) -> Result<bool, AllocError>
-    ensures text { OnOk result (out.new.items ≡ out.old.items ++ notes_text (action_notes rule.now.action rule.now.suppress version.now.routes packet.now.dst)) }
-    ensures decides { IfOk result (λ decides. decides ≡ is_some (verdict_by rule.now.action rule.now.suppress rule.now.priority version.now.routes packet.now)) }
+    ensures text { OnOk result (out.new.items
+        ≡ out.old.items ++ notes_text (action_notes rule.now.action rule.now.suppress version.now.routes packet.now.dst)) }
+    ensures decides { IfOk result (λ decides.
+        decides ≡ is_some (verdict_by rule.now.action rule.now.suppress rule.now.priority version.now.routes packet.now)) }
 {
     match rule.action {
         Action::Lookup(table) => push_lookup_notes(out, rule.suppress, table, version, packet),

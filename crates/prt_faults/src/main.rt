@@ -18,42 +18,42 @@ mod slow_looker;
 mod versions;
 mod words;
 
-use output::tell;
+use output::{Streams, tell};
 use prt_command::Refusal;
 use prt_session::Reply;
 use quiet::Databases;
 use sqlite::{Alter, Connection};
 use std::alloc::Global;
-use std::io::{Read, Write};
+use std::io::{Stdin, Stdout};
 use std::process::ExitCode;
 use std::sync::Wait;
 use std::time::Clock;
 use std::{env, io};
 
 /// Makes the calls of a word that has a publisher, over new databases.
-fn run_over<S: Alter + Drop, H: Wait + Clock + Copy + Drop, R: Read, W: Write>(
+fn run_over<S: Alter + Drop, H: Wait + Clock + Copy + Drop, T: Streams>(
     rt: H,
     alloc: Global,
     word: &str,
     databases: Databases<S>,
-    input: &mut R,
-    output: &mut W,
+    input: &mut T::Input,
+    output: &mut T::Output,
 ) -> Result<(), Refusal> {
     match word {
         "slow_looker" => slow_looker::run(rt, alloc, databases.served, output),
-        "session" => session::run(rt, alloc, databases.served, input, output),
+        "session" => session::run::<S, H, T>(rt, alloc, databases.served, input, output),
         "quiet" => quiet::run(rt, alloc, databases, output),
         _ => Err(Refusal::UnknownWord),
     }
 }
 
 /// Makes the calls of a word.
-fn run<H: Wait + Clock + Copy + Drop, R: Read, W: Write>(
+fn run<H: Wait + Clock + Copy + Drop, T: Streams>(
     rt: H,
     alloc: Global,
     word: &str,
-    input: &mut R,
-    output: &mut W,
+    input: &mut T::Input,
+    output: &mut T::Output,
 ) -> Result<(), Refusal> {
     if word == "grace_period" {
         return grace_period::replay(alloc, input, output);
@@ -64,30 +64,39 @@ fn run<H: Wait + Clock + Copy + Drop, R: Read, W: Write>(
         spare: Connection::open_in_memory(alloc)?,
         served: Connection::open_in_memory(alloc)?,
     };
-    run_over(rt, alloc, word, databases, input, output)
+    run_over::<_, H, T>(rt, alloc, word, databases, input, output)
 }
 
 /// Makes the calls of the program's word.
-fn run_word<H: Wait + Clock + Copy + Drop, R: Read, W: Write>(
+fn run_word<H: Wait + Clock + Copy + Drop, T: Streams>(
     rt: H,
     alloc: Global,
     words: io::Result<Vec<String>>,
-    input: &mut R,
-    output: &mut W,
+    input: &mut T::Input,
+    output: &mut T::Output,
 ) -> Result<(), Refusal> {
     let Ok(words) = words else {
         return Err(Refusal::NoMemory);
     };
     match words.get(1) {
-        Some(word) => run(rt, alloc, word.as_str(), input, output),
+        Some(word) => run::<H, T>(rt, alloc, word.as_str(), input, output),
         None => Err(Refusal::MissingValue),
     }
+}
+
+/// The standard streams.
+struct Standard;
+
+impl Streams for Standard {
+    type Input = Stdin;
+
+    type Output = Stdout;
 }
 
 fn main(rt: HostRuntime) -> ExitCode {
     let alloc = rt.alloc();
     let words: io::Result<Vec<String>> = env::args(&rt).and_then(|args| Ok(args.collect(alloc)?));
-    match run_word(rt, alloc, words, &mut rt.stdin(), &mut rt.stdout()) {
+    match run_word::<_, Standard>(rt, alloc, words, &mut rt.stdin(), &mut rt.stdout()) {
         Ok(()) => ExitCode::SUCCESS,
         Err(reason) => {
             let _ = tell(&mut rt.stdout(), &Reply::Refused(reason));

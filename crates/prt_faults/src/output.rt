@@ -1,8 +1,15 @@
-//! Lines of output.
+//! Streams, and lines of output.
 
 use prt_command::Refusal;
 use prt_replies::{Reply, write_reply};
-use std::io::Write;
+use std::io::{Read, Write};
+
+/// The types of the streams of the program.
+pub(crate) trait Streams {
+    type Input: Read;
+
+    type Output: Write;
+}
 
 /// Writes a reply.
 pub(crate) fn tell<W: Write>(output: &mut W, reply: &Reply) -> Result<(), Refusal> {

@@ -2,6 +2,7 @@
 ghost use Rattle.prt_publisher.specs.Standing.{IsQuiet};
 ghost use Rattle.prt_service.specs.Named.{IsNamed};
 
+use crate::output::Streams;
 use crate::service::{adopted, service_over};
 use prt_command::Refusal;
 use prt_grace::Domain;
@@ -10,20 +11,19 @@ use prt_serve::{OpenGate, ServiceContext, serve_session};
 use prt_service::{Service, ServiceBrand};
 use sqlite::{Alter, Connection};
 use std::alloc::Global;
-use std::io::{Read, Write};
 use std::marker::Brand;
 use std::net::{Ipv4Addr, SocketAddr};
 use std::sync::Wait;
 use std::time::Clock;
 
 /// Serves one session of a service of the named front.
-fn serve<J: ServiceBrand, S: Alter + Drop, H: Wait + Clock + Copy + Drop, R: Read, W: Write>(
+fn serve<J: ServiceBrand, S: Alter + Drop, H: Wait + Clock + Copy + Drop, T: Streams>(
     rt: H,
     alloc: Global,
     publisher: Publisher<S>,
     domain: Domain,
-    input: &mut R,
-    output: &mut W,
+    input: &mut T::Input,
+    output: &mut T::Output,
 ) -> Result<(), Refusal>
     requires quiet { IsQuiet publisher.phase }
     requires of { IsNamed J.book J.base J.ours_first publisher }
@@ -48,13 +48,13 @@ fn serve<J: ServiceBrand, S: Alter + Drop, H: Wait + Clock + Copy + Drop, R: Rea
 }
 
 /// Serves a session with the lines of the input, over the database of a connection.
-pub(crate) fn run<S: Alter + Drop, H: Wait + Clock + Copy + Drop, R: Read, W: Write>(
+pub(crate) fn run<S: Alter + Drop, H: Wait + Clock + Copy + Drop, T: Streams>(
     rt: H,
     alloc: Global,
     connection: Connection<S>,
-    input: &mut R,
-    output: &mut W,
+    input: &mut T::Input,
+    output: &mut T::Output,
 ) -> Result<(), Refusal> {
     let (publisher, domain) = adopted(alloc, connection)?;
-    serve::<Brand, S, H, R, W>(rt, alloc, publisher, domain, input, output)
+    serve::<Brand, S, H, T>(rt, alloc, publisher, domain, input, output)
 }

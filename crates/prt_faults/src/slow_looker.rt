@@ -40,117 +40,107 @@ impl<H: Wait + Clock + Copy + Drop> Clock for Hasty<H> {
     // Leaves `sleep` out, which returns at once.
 }
 
-/// Submits the command after so many: a route is added and removed in turn. Returns the number of its receipt.
-fn submit_next<S: Alter + Drop, J: ServiceBrand, H: Wait + Clock>(
-    rt: &H,
-    service: &Service<S, J>,
-    accepted: u64,
-) -> Result<u64, Refusal> {
-    let line = if accepted % 2 == 0 {
-        "route add 10.0.0.1 dev eth0"
-    } else {
-        "route del 10.0.0.1"
-    };
-    let command = command_of(line)?;
-    match submit(rt, service, &command) {
-        Ok(receipt) => Ok(receipt.number()),
-        Err(reason) => Err(reason),
-    }
+/// What calls a service.
+#[derive(Drop)]
+struct Caller<'s, S: Alter + Drop, J: ServiceBrand, H> {
+    rt: &'s H,
+    service: &'s Service<S, J>,
 }
 
-/// Submits commands after so many until one is refused, or the last of them was accepted. Writes the number of the last
-/// receipt, and why the next command was refused. Returns that number.
-///
-/// # Errors
-///
-/// Why a command was refused, other than `Busy`.
-fn submit_until<S: Alter + Drop, J: ServiceBrand, H: Wait + Clock, W: Write>(
-    rt: &H,
-    service: &Service<S, J>,
-    accepted: u64,
-    last: u64,
-    output: &mut W,
-) -> Result<u64, Refusal> {
-    let mut number = accepted;
-    let mut refused = None;
-    for before in accepted..last {
-        match submit_next(rt, service, before) {
-            Ok(next) => number = next,
-            Err(reason) => {
-                refused = Some(reason);
-                break;
+impl<'s, S: Alter + Drop, J: ServiceBrand, H: Wait + Clock> Caller<'s, S, J, H> {
+    /// Submits the command after so many: a route is added and removed in turn. Returns the number of its receipt.
+    fn submit_next(&self, accepted: u64) -> Result<u64, Refusal> {
+        let line = if accepted % 2 == 0 {
+            "route add 10.0.0.1 dev eth0"
+        } else {
+            "route del 10.0.0.1"
+        };
+        let command = command_of(line)?;
+        match submit(self.rt, self.service, &command) {
+            Ok(receipt) => Ok(receipt.number()),
+            Err(reason) => Err(reason),
+        }
+    }
+
+    /// Submits commands after so many until one is refused, or the last of them was accepted. Writes the number of the
+    /// last receipt, and why the next command was refused. Returns that number.
+    ///
+    /// # Errors
+    ///
+    /// Why a command was refused, other than `Busy`.
+    fn submit_until<W: Write>(
+        &self,
+        accepted: u64,
+        last: u64,
+        output: &mut W,
+    ) -> Result<u64, Refusal> {
+        let mut number = accepted;
+        let mut refused = None;
+        for before in accepted..last {
+            match self.submit_next(before) {
+                Ok(next) => number = next,
+                Err(reason) => {
+                    refused = Some(reason);
+                    break;
+                }
+            }
+        }
+        tell_number(output, number)?;
+        match refused {
+            None => Ok(number),
+            Some(reason) => {
+                tell(output, &Reply::Refused(reason))?;
+                if reason == Refusal::Busy {
+                    Ok(number)
+                } else {
+                    Err(reason)
+                }
             }
         }
     }
-    tell_number(output, number)?;
-    match refused {
-        None => Ok(number),
-        Some(reason) => {
+
+    /// Submits commands beside a looker that refreshes at first, and then when a command was refused; rests it, and
+    /// submits further ones.
+    fn submit_beside<W: Write>(&self, looker: &mut Looker, output: &mut W) -> Result<(), Refusal>
+        requires { (looker.old.known.book ≡ J.book) × (looker.old.known.base ≡ J.base) }
+        ensures { (looker.new.known.book ≡ looker.old.known.book) × (looker.new.known.base ≡ looker.old.known.base) }
+    {
+        tell_number(output, look(self.rt, self.service, looker)?)?;
+        let missed = self.submit_until(0, 100, output)?;
+        if looker.is_online() {
+            tell_number(output, looker.look(&packet()).number)?;
+        }
+        tell_number(output, look(self.rt, self.service, looker)?)?;
+        let next = self.submit_until(missed, missed.saturating_add(1), output)?;
+        looker.rest(self.rt, self.service);
+        let _last = self.submit_until(next, next.saturating_add(65), output)?;
+        Ok(())
+    }
+
+    /// Makes lookers until one is refused, or so many are there. Then all of them leave. Returns how many there were.
+    fn gather(&self, most: u64) -> u64 {
+        if most == 0 {
+            return 0;
+        }
+        match self.service.looker(self.rt) {
+            Ok(looker) => {
+                let others = self.gather(most - 1);
+                looker.leave(self.rt, self.service);
+                others.saturating_add(1)
+            }
+            Err(_) => 0,
+        }
+    }
+
+    /// Goes on if the publisher was closed: a further command is refused, and the looker has the published version.
+    fn go_on_closed<W: Write>(&self, looker: &mut Looker, output: &mut W) -> Result<(), Refusal>
+        requires { (looker.old.known.book ≡ J.book) × (looker.old.known.base ≡ J.base) }
+    {
+        if let Err(reason) = self.submit_next(0) {
             tell(output, &Reply::Refused(reason))?;
-            if reason == Refusal::Busy {
-                Ok(number)
-            } else {
-                Err(reason)
-            }
         }
+        tell_number(output, look(self.rt, self.service, looker)?)
     }
-}
-
-/// Submits commands beside a looker that refreshes at first, and then when a command was refused; rests it, and submits
-/// further ones.
-fn submit_beside<S: Alter + Drop, J: ServiceBrand, H: Wait + Clock, W: Write>(
-    rt: &H,
-    service: &Service<S, J>,
-    looker: &mut Looker,
-    output: &mut W,
-) -> Result<(), Refusal>
-    requires { (looker.old.known.book ≡ J.book) × (looker.old.known.base ≡ J.base) }
-    ensures { (looker.new.known.book ≡ looker.old.known.book) × (looker.new.known.base ≡ looker.old.known.base) }
-{
-    tell_number(output, look(rt, service, looker)?)?;
-    let missed = submit_until(rt, service, 0, 100, output)?;
-    if looker.is_online() {
-        tell_number(output, looker.look(&packet()).number)?;
-    }
-    tell_number(output, look(rt, service, looker)?)?;
-    let next = submit_until(rt, service, missed, missed.saturating_add(1), output)?;
-    looker.rest(rt, service);
-    let _last = submit_until(rt, service, next, next.saturating_add(65), output)?;
-    Ok(())
-}
-
-/// Makes lookers until one is refused, or so many are there. Then all of them leave. Returns how many there were.
-fn gather<S: Alter + Drop, J: ServiceBrand, H: Wait>(
-    rt: &H,
-    service: &Service<S, J>,
-    most: u64,
-) -> u64 {
-    if most == 0 {
-        return 0;
-    }
-    match service.looker(rt) {
-        Ok(looker) => {
-            let others = gather(rt, service, most - 1);
-            looker.leave(rt, service);
-            others.saturating_add(1)
-        }
-        Err(_) => 0,
-    }
-}
-
-/// Goes on if the publisher was closed: a further command is refused, and the looker has the published version.
-fn go_on_closed<S: Alter + Drop, J: ServiceBrand, H: Wait + Clock, W: Write>(
-    rt: &H,
-    service: &Service<S, J>,
-    looker: &mut Looker,
-    output: &mut W,
-) -> Result<(), Refusal>
-    requires { (looker.old.known.book ≡ J.book) × (looker.old.known.base ≡ J.base) }
-{
-    if let Err(reason) = submit_next(rt, service, 0) {
-        tell(output, &Reply::Refused(reason))?;
-    }
-    tell_number(output, look(rt, service, looker)?)
 }
 
 /// Runs a service of the named front.
@@ -165,15 +155,19 @@ fn serve<J: ServiceBrand, S: Alter + Drop, H: Wait + Clock + Copy + Drop, W: Wri
 {
     let service: Service<S, J> = service_over(&rt, publisher, domain)?;
     let mut looker = service.looker(&rt)?;
-    match submit_beside(&rt, &service, &mut looker, output) {
+    let caller = Caller {
+        rt: &rt,
+        service: &service,
+    };
+    match caller.submit_beside(&mut looker, output) {
         Err(Refusal::StoreFailed(_) | Refusal::NotPublished) => {
-            go_on_closed(&rt, &service, &mut looker, output)
+            caller.go_on_closed(&mut looker, output)
         }
         Err(reason) => Err(reason),
         Ok(()) => {
             looker.leave(&rt, &service);
-            tell_number(output, gather(&rt, &service, 100))?;
-            tell_number(output, gather(&rt, &service, 100))
+            tell_number(output, caller.gather(100))?;
+            tell_number(output, caller.gather(100))
         }
     }
 }

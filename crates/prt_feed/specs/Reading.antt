@@ -74,7 +74,8 @@ pub record IsOpening (reader0 reader : Option (List ℕ)) (opening : Opening) : 
 abbrev pub IsWhyNotRead : Option (List ℕ) → Option (List ℕ) → OpeningError → Type 0
 IsWhyNotRead reader0 reader reasons.CutOff = Unit {0}
 IsWhyNotRead reader0 reader reasons.NoFeed = (line : List ℕ) × IsTaken reader0 reader line × IsNoState line
-IsWhyNotRead reader0 reader (reasons.Refused reason) = (number : ℕ) × (between : Option (List ℕ)) × AreTaken reader0 between (state_line number ∷ []) × IsWhyRefused between reader reason
+IsWhyNotRead reader0 reader (reasons.Refused reason) =
+    (number : ℕ) × (between : Option (List ℕ)) × AreTaken reader0 between (state_line number ∷ []) × IsWhyRefused between reader reason
 IsWhyNotRead reader0 reader reasons.NoMemory = Unit {0}
 
 -- ---- what was sent

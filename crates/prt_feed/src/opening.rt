@@ -57,7 +57,8 @@ impl Opening {
     /// `Damaged` if the number is less than what the tables need, which is so of no feed of a server; `NoMemory`.
     pub fn into_version(self, alloc: Global) -> Result<Version, Refusal>
         ensures value { IfOk result (λ version. RowsSpell self.number (numbered_from 1 self.version.rules) self.version.routes version) }
-        ensures reason { IfErr result (λ reason. ((reason ≡ Damaged) × RowsSpellNone self.number (numbered_from 1 self.version.rules) self.version.routes) ⊎ (reason ≡ NoMemory)) }
+        ensures reason { IfErr result (λ reason.
+            ((reason ≡ Damaged) × RowsSpellNone self.number (numbered_from 1 self.version.rules) self.version.routes) ⊎ (reason ≡ NoMemory)) }
     {
         let rules = numbered(alloc, self.version.rules())?;
         let routes = every_route(&self.version)?;

@@ -21,7 +21,8 @@ outcome_to state packet addr = outcome_of (select state (to packet addr))
 
 -- each destination has the number of what becomes of the packet to it
 abbrev pub AreNumbersOf : Table → List Addr → List ℕ → Type 0
-AreNumbersOf table destinations numbers = map (slice_get table.outcomes) numbers ≡ map (λ (dst : Addr). Some (outcome_to table.state table.packet dst.0)) destinations
+AreNumbersOf table destinations numbers =
+    map (slice_get table.outcomes) numbers ≡ map (λ (dst : Addr). Some (outcome_to table.state table.packet dst.0)) destinations
 
 -- no outcome has two numbers
 abbrev pub AreDistinct : List Outcome → Type 0

@@ -32,10 +32,12 @@ pub record AreDivided (base : ℕ) (old_starts old_numbers : List ℕ) (first en
   pub same : length numbers ≡ length starts
   pub at_first : IsDivided base starts first
   pub at_end : IsDivided base starts end
-  pub tells : (state : State) (packet : Packet) (outcomes : List Outcome) → AreTold state packet outcomes base old_starts old_numbers → AreTold state packet outcomes base starts numbers
+  pub tells : (state : State) (packet : Packet) (outcomes : List Outcome) → AreTold state packet outcomes base old_starts old_numbers →
+      AreTold state packet outcomes base starts numbers
 
 -- the starts at these places have the numbers of what becomes of the packet there, and the others keep theirs
-pub record AreRenumbered (state : State) (packet : Packet) (starts : List ℕ) (first last : ℕ) (old_numbers numbers : List ℕ) (old_outcomes outcomes : List Outcome) : Type 0 where
+pub record AreRenumbered (state : State) (packet : Packet) (starts : List ℕ) (first last : ℕ) (old_numbers numbers : List ℕ)
+    (old_outcomes outcomes : List Outcome) : Type 0 where
   pub size : length numbers ≡ length old_numbers
   pub keeps : Keeps old_outcomes outcomes
   pub inside : (k : ℕ) → first ≤ k → k < last → slice_get outcomes (slice_index numbers k) ≡ Some (outcome_to state packet (slice_index starts k))

@@ -42,7 +42,8 @@ pub record IsAlike (rules : List Rule) (classes : List Class) (packet : Packet) 
 
 -- a packet that is taken as one of the classes is led to such a class
 abbrev pub FindsClass : List Rule → List Class → ClassTree → Type 0
-FindsClass rules classes tree = (packet : Packet) (class : Class) → Contains classes class → AreTakenAlike rules packet class.packet → IsAlike rules classes packet (class_of tree packet)
+FindsClass rules classes tree = (packet : Packet) (class : Class) → Contains classes class → AreTakenAlike rules packet class.packet →
+    IsAlike rules classes packet (class_of tree packet)
 
 -- each class has the number of its place
 pub record AreNumberedOff (packets : List Packet) (classes : List Class) : Type 0 where
@@ -63,7 +64,8 @@ AreFollowed next change tables = (k : ℕ) (table : Table) → slice_get tables 
 -- all tables are of the state, and each packet is led to that of its class
 pub record IsWhole (state : State) (tables : List Table) (by : ClassTree) : Type 0 where
   pub of : (k : ℕ) (table : Table) → slice_get tables k ≡ Some table → table.state ≡ state
-  pub finds : (packet : Packet) → IsPacket packet → (table : Table) × (slice_get tables (class_of by packet) ≡ Some table) × AreTakenAlike state.rules packet table.packet
+  pub finds : (packet : Packet) → IsPacket packet →
+      (table : Table) × (slice_get tables (class_of by packet) ≡ Some table) × AreTakenAlike state.rules packet table.packet
 
 -- ---- why there are none
 
@@ -73,4 +75,5 @@ HasManyClasses rules = (packets : List Packet) × IsDistinct (are_alike rules) p
 
 -- memory is refused, or there are too many classes, boxes or outcomes
 abbrev pub IsUnfit : State → Refusal → Type 0
-IsUnfit state reason = (reason ≡ NoMemory) ⊎ ((reason ≡ Full) × (AreTooMany state.rules ⊎ (HasManyClasses state.rules ⊎ ((packet : Packet) × HasTooMany state packet))))
+IsUnfit state reason = (reason ≡ NoMemory)
+    ⊎ ((reason ≡ Full) × (AreTooMany state.rules ⊎ (HasManyClasses state.rules ⊎ ((packet : Packet) × HasTooMany state packet))))

@@ -137,7 +137,8 @@ fn renumber(
     requires same { length numbers.old.items ≡ length starts.now }
     requires order { first ≤ last }
     requires last { last ≤ length starts.now }
-    ensures value { OnOk result (AreRenumbered version.now packet.now starts.now first last numbers.old.items numbers.new.items (arc_value outcomes.old) (arc_value outcomes.new)) }
+    ensures value { OnOk result (AreRenumbered version.now packet.now starts.now first last numbers.old.items numbers.new.items
+        (arc_value outcomes.old) (arc_value outcomes.new)) }
     ensures reason { IfErr result (λ reason. (reason ≡ Full) ⊎ (reason ≡ NoMemory)) }
 {
     for place in first..last {

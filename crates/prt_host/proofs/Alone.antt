@@ -6,8 +6,8 @@ use Rattle.prt_addr.specs.Word.{Word}
 use Rattle.prt_refusals.specs.declared.refusal.Refusal.{Refusal}
 use Rattle.prt_machine.specs.declared.database_opener.DatabaseOpener.{Ghosts as Opener}
 use Rattle.prt_machine.specs.declared.database_opener.Wanted.TheVariants.{Any}
-use Rattle.prt_desk.specs.Remains.{Remains}
-use Rattle.prt_desk.specs.StoreDesk.{IsKept, IsStoreMishap, LeavesFound, StandsFor}
+use Rattle.prt_publisher.specs.Remains.{Remains}
+use Rattle.prt_publisher.specs.StoreDesk.{IsKept, IsStoreMishap, LeavesFound, StandsFor}
 use Rattle.prt_program.specs.Faults.{database_of}
 use Rattle.prt_program.specs.Program.{IsUntouched, Runs, RunsAt, RunsBatch, RunsNothing, RunsOver, SessionFact, Streams}
 use Rattle.prt_publisher.specs.Openings.{OpensOne}

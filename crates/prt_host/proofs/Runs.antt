@@ -6,8 +6,8 @@ use Rattle.sqlite.specs.Store.{Ghosts}
 use Rattle.prt_addr.specs.Word.{Word}
 use Rattle.prt_refusals.specs.declared.refusal.Refusal.{Refusal}
 use Rattle.prt_machine.specs.declared.database_opener.DatabaseOpener.{Ghosts as Opener}
-use Rattle.prt_desk.proofs.Kept.{durable_is, shows}
-use Rattle.prt_desk.specs.StoreDesk.{IsKept, MayBeStored, desk_with}
+use Rattle.prt_publisher.proofs.Kept.{durable_is, shows}
+use Rattle.prt_publisher.specs.StoreDesk.{IsKept, MayBeStored, desk_with}
 use Rattle.prt_program.specs.Program.{LeavesDatabases, Runs, RunsNothing, Streams}
 use Rattle.prt_publisher.specs.Openings.{HasOpened}
 use Rattle.prt_publisher.specs.Standing.{Standing}

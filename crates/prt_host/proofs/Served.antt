@@ -9,8 +9,8 @@ use Rattle.prt_publisher.specs.Openings.{OpensOne}
 use Rattle.prt_publisher.specs.Standing.{Standing}
 use Rattle.prt_refusals.specs.declared.refusal.Refusal.{Refusal}
 use Rattle.prt_serve.specs.Kept.{Keeps, Work}
-use Rattle.prt_serve.specs.declared.listen.Accepting.{Accepting}
-use Rattle.prt_serve.specs.declared.listen.Accepting.TheVariants.{Ended, Failed, NoWorkers}
+use Rattle.prt_serve.specs.declared.accept_loop.Accepting.{Accepting}
+use Rattle.prt_serve.specs.declared.accept_loop.Accepting.TheVariants.{Ended, Failed, NoWorkers}
 use Rattle.prt_service.specs.Named.{IsReleased}
 use Rattle.prt_machine.specs.declared.database_opener.DatabaseOpener.{Ghosts as Opener}
 use Rattle.prt_version.specs.State.{State}

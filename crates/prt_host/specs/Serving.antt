@@ -11,9 +11,9 @@ use Rattle.prt_machine.specs.declared.database_opener.DatabaseOpener.{Ghosts as 
 use Rattle.prt_machine.specs.declared.database_opener.Wanted.TheVariants.{Any}
 use Rattle.prt_machine.specs.Closing.{IsClosedAgain, LeavesNoneOpen}
 use Rattle.prt_serve.specs.Kept.{Keeps, Work}
-use Rattle.prt_serve.specs.declared.listen.Accepting.{Accepting}
-use Rattle.prt_serve.specs.declared.listen.Accepting.TheVariants.{Failed, NoWorkers}
-use Rattle.prt_serve.specs.declared.listen.ServeEnd.{ServeEnd}
+use Rattle.prt_serve.specs.declared.accept_loop.Accepting.{Accepting}
+use Rattle.prt_serve.specs.declared.accept_loop.Accepting.TheVariants.{Failed, NoWorkers}
+use Rattle.prt_serve.specs.declared.threads.ServeEnd.{ServeEnd}
 use Rattle.prt_service.specs.Named.{IsReleased}
 use Rattle.prt_version.specs.State.{State}
 use Rattle.prt_args.specs.declared.fault.Fault.{Fault}
@@ -59,7 +59,8 @@ pub record IsLeft {S : Type 0} (g : Ghosts S) (book : Book) (base : State) (ours
   pub released : IsReleased g book base ours_first published tables
   pub kept : All (Keeps published) shifts
 
--- A publisher was opened, and its service left these tables at its end. It had begun with the state that was opened. What its workers replied `ok` in these shifts is kept.
+-- A publisher was opened, and its service left these tables at its end. It had begun with the state that was opened. What its
+-- workers replied `ok` in these shifts is kept.
 pub record HasServed {S : Type 0} (g : Ghosts S) (first last : Held S) : Type 0 where
   pub begun : Standing (Held S)
   pub opens : OpensOne g (λ was. was ≡ first) begun

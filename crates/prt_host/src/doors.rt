@@ -1,4 +1,4 @@
-//! Where a server listens, all of it.
+//! The ports and sockets at which a server listens.
 
 use prt_args::ServeArgs;
 use prt_machine::{ServerNet, Socket};

@@ -6,7 +6,7 @@ ghost use Rattle.prt_args.specs.Invocation.{arguments, invocation};
 
 use crate::server::serve;
 use crate::telling::{tell_failure, tell_failures};
-use prt_machine::{DatabaseFiles, Host};
+use prt_machine::{DatabaseFiles, Host, StreamsOf};
 use prt_program::{Next, program};
 use prt_questions::{answer_question, submit_script};
 use std::alloc::Global;
@@ -27,12 +27,22 @@ pub fn run<H: Host>(
     output: &mut H::Output,
     mut errors: H::Errors,
 ) -> u8
-    ensures { RunsPrt H.Store.Store H.Opener.DatabaseOpener databases.old.machine databases.new.machine (H.Files.opens databases.old.files.now) H.Files.Opened.remaining
-        (sources_of H.Files.opens H.Files.Opened.remaining databases.old.files.now H.Net.reaches H.Net.Stream.remaining databases.old.rt (H.Input.remaining input.old)) (invocation (arguments words.now))
+    ensures { RunsPrt H.Store.Store H.Opener.DatabaseOpener databases.old.machine databases.new.machine
+        (H.Files.opens databases.old.files.now) H.Files.Opened.remaining
+        (sources_of H.Files.opens H.Files.Opened.remaining databases.old.files.now H.Net.reaches H.Net.Stream.remaining databases.old.rt
+        (H.Input.remaining input.old)) (invocation (arguments words.now))
         (streams_of (H.Input.remaining input.old) (H.Output.contents output.old) (H.Output.contents output.new)) result }
 {
     let files = databases.files;
-    let next = program(files, databases, alloc, words, input, output, &mut errors);
+    let next = program::<_, _, StreamsOf<H>>(
+        files,
+        databases,
+        alloc,
+        words,
+        input,
+        output,
+        &mut errors,
+    );
     tell_failures(alloc, input, output, &mut errors);
     match next {
         Next::Exit(status) => status,

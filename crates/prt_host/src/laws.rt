@@ -9,7 +9,7 @@ use sqlite::{Alter, Connection};
 /// the one that was queried (`asked`).
 ///
 /// Premises: the later opening is handed what was left, as it was when it was handed to its closing, or as a crash left it
-/// then. Of files that are handed on `prt_desk::files_keep` says so. The disk returns what was written, and our tables
+/// then. Of files that are handed on `prt_publisher::files_keep` says so. The disk returns what was written, and our tables
 /// are the first of the file.
 pub fn runs_go_on<S: Alter, M: DatabaseOpener<Connection<S>>>()
     ensures begins { RunBegins S.Store M.DatabaseOpener }

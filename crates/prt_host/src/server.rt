@@ -8,7 +8,7 @@ ghost use Rattle.prt_serve.specs.Kept.{Work};
 
 use crate::context::ServerContext;
 use crate::doors::{Doors, PlaceError, listen};
-use crate::serving::{faults_of, serve_named};
+use crate::serving::{faults_of, run_service};
 use crate::telling::tell_shared;
 use prt_args::{DONE, FAULT, Fault, ServeArgs, report};
 use prt_grace::Domain;
@@ -35,11 +35,11 @@ struct ServeError {
 
 impl ServeError {
     /// Makes a fault with its cause, which befell what is at this place.
-    fn new<P: Display, D: Display>(
+    fn new<P: Display, Q: Display>(
         alloc: Global,
         fault: Fault,
         place: &P,
-        cause: Option<&D>,
+        cause: Option<&Q>,
     ) -> ServeError
         ensures { result.fault ≡ fault }
     {
@@ -93,8 +93,9 @@ impl ServeError {
     }
 }
 
-/// Serves what comes at these doors over a publisher. Returns the same as `serve_over`.
-fn serve_at<H: Host>(
+/// Takes the publisher's readers, and serves what comes at these doors by a service over it. Returns why not all that was
+/// asked for was served, and the connection.
+fn take_seats_and_serve<H: Host>(
     context: &ServerContext<'_, '_, '_, H>,
     mut publisher: Publisher<H::Store>,
     domain: Domain,
@@ -102,7 +103,8 @@ fn serve_at<H: Host>(
 ) -> (Option<ServeError>, Connection<H::Store>)
     requires { IsQuiet publisher.phase }
     ensures fault { IfSome result.0 (λ failure. IsFaultOfServing failure.fault) }
-    ensures left { (shifts : List Work) × IsLeft H.Store.Store publisher.line.book publisher.line.base publisher.ours_first shifts result.1 × (result.0 ≡ None → length shifts ≡ context.now.asked.now.workers) }
+    ensures left { (shifts : List Work) × IsLeft H.Store.Store publisher.line.book publisher.line.base publisher.ours_first shifts result.1
+        × (result.0 ≡ None → length shifts ≡ context.now.asked.now.workers) }
 {
     let (rt, alloc) = (context.rt, context.alloc);
     let seats = match publisher.seats(rt, alloc) {
@@ -118,12 +120,13 @@ fn serve_at<H: Host>(
             return (Some(failure), publisher.end(rt));
         }
     };
-    let (end, conn) = serve_named::<H, Brand>(context, publisher, seats, domain, doors);
+    let (end, conn) = run_service::<H, Brand>(context, publisher, seats, domain, doors);
     (ServeError::of_end(end), conn)
 }
 
-/// Listens, and serves what comes over a publisher. Returns why not all that was asked for was served, and the connection.
-fn serve_over<H: Host>(
+/// Listens where it is asked for, and serves what comes over a publisher. Returns why not all that was asked for was served,
+/// and the connection.
+fn listen_and_serve<H: Host>(
     context: &ServerContext<'_, '_, '_, H>,
     publisher: Publisher<H::Store>,
     domain: Domain,
@@ -131,7 +134,8 @@ fn serve_over<H: Host>(
 ) -> (Option<ServeError>, Connection<H::Store>)
     requires { IsQuiet publisher.phase }
     ensures fault { IfSome result.0 (λ failure. IsFaultOfServing failure.fault) }
-    ensures left { (shifts : List Work) × IsLeft H.Store.Store publisher.line.book publisher.line.base publisher.ours_first shifts result.1 × (result.0 ≡ None → length shifts ≡ context.now.asked.now.workers) }
+    ensures left { (shifts : List Work) × IsLeft H.Store.Store publisher.line.book publisher.line.base publisher.ours_first shifts result.1
+        × (result.0 ≡ None → length shifts ≡ context.now.asked.now.workers) }
 {
     let (rt, alloc) = (context.rt, context.alloc);
     let doors = match listen(rt, alloc, context.asked, output) {
@@ -141,7 +145,7 @@ fn serve_over<H: Host>(
             return (Some(failure), publisher.end(rt));
         }
     };
-    let served = serve_at(context, publisher, domain, &doors);
+    let served = take_seats_and_serve(context, publisher, domain, &doors);
     doors.remove_files(rt);
     served
 }
@@ -151,15 +155,17 @@ fn serve_over<H: Host>(
 /// # Errors
 ///
 /// The fault that ended it, with its cause if one is known. The database is closed then too.
-fn serve_database<'x, H: Host>(
+fn open_and_serve<'x, H: Host>(
     databases: &mut DatabaseFiles<'_, H>,
     alloc: Global,
     asked: &'x ServeArgs<'_>,
     output: &mut H::Output,
     errors: &'x Mutex<H::Errors>,
 ) -> Result<(), ServeError>
-    ensures ok { OnOk result (IsServedBy H.Store.Store H.Opener.DatabaseOpener asked.now.workers databases.old.machine databases.new.machine asked.now.database.now) }
-    ensures err { IfErr result (λ failure. IsNotServed H.Store.Store H.Opener.DatabaseOpener databases.old.machine databases.new.machine asked.now.database.now failure.fault) }
+    ensures ok { OnOk result
+        (IsServedBy H.Store.Store H.Opener.DatabaseOpener asked.now.workers databases.old.machine databases.new.machine asked.now.database.now) }
+    ensures err { IfErr result (λ failure.
+        IsNotServed H.Store.Store H.Opener.DatabaseOpener databases.old.machine databases.new.machine asked.now.database.now failure.fault) }
 {
     let rt = databases.rt;
     let opened = open_publisher(&mut databases.machine, alloc, asked.database, Wanted::Any);
@@ -174,7 +180,7 @@ fn serve_database<'x, H: Host>(
         asked: &*asked,
         errors: &*errors,
     };
-    let (failure, conn) = serve_over(&context, publisher, domain, output);
+    let (failure, conn) = listen_and_serve(&context, publisher, domain, output);
     if let Err(reason) = databases.machine.close(conn) {
         tell_shared(&rt, log_message(alloc, asked.database, &reason), errors);
     }
@@ -198,12 +204,14 @@ pub(crate) fn serve<H: Host>(
     output: &mut H::Output,
     errors: H::Errors,
 ) -> u8
-    ensures done { result ≡ DONE → IsServedBy H.Store.Store H.Opener.DatabaseOpener asked.now.workers databases.old.machine databases.new.machine asked.now.database.now }
+    ensures done { result ≡ DONE →
+        IsServedBy H.Store.Store H.Opener.DatabaseOpener asked.now.workers databases.old.machine databases.new.machine asked.now.database.now }
     ensures fault { result ≢ DONE → result ≡ FAULT }
-    ensures why { result ≢ DONE → (fault : Fault) × IsNotServed H.Store.Store H.Opener.DatabaseOpener databases.old.machine databases.new.machine asked.now.database.now fault }
+    ensures why { result ≢ DONE → (fault : Fault)
+        × IsNotServed H.Store.Store H.Opener.DatabaseOpener databases.old.machine databases.new.machine asked.now.database.now fault }
 {
     let errors = Mutex::new(errors);
-    let served = serve_database(databases, alloc, asked, output, &errors);
+    let served = open_and_serve(databases, alloc, asked, output, &errors);
     let mut errors = errors.into_inner();
     match served {
         Ok(()) => DONE,

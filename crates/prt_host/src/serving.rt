@@ -42,8 +42,8 @@ fn limits_of(asked: &ServeArgs<'_>) -> Limits
     }
 }
 
-/// Serves what comes at the doors by a service, and reports why a commit failed, and why nothing is accepted.
-fn serve_reporting<H: Host, J: ServiceBrand + Send>(
+/// Serves what comes at the doors by a service, with a gate that reports why a commit failed, and why nothing is accepted.
+fn serve_with_gate<H: Host, J: ServiceBrand + Send>(
     context: &ServerContext<'_, '_, '_, H>,
     service: &Service<H::Store, J>,
     doors: &Doors<H::Net>,
@@ -89,10 +89,10 @@ fn not_kept(end: ServeEnd) -> ServeEnd
     }
 }
 
-/// Serves what comes at the doors, by a service that is named here. Returns how that ended, and the connection.
+/// Runs a service of the named front for what comes at the doors, and ends it. Returns how that ended, and the connection.
 ///
 /// At the end the list that each worker knew is compared with the published one: if it weren't a prefix, that is a fault.
-pub(crate) fn serve_named<H: Host, J: ServiceBrand + Send>(
+pub(crate) fn run_service<H: Host, J: ServiceBrand + Send>(
     context: &ServerContext<'_, '_, '_, H>,
     publisher: Publisher<H::Store>,
     seats: Seats,
@@ -102,10 +102,11 @@ pub(crate) fn serve_named<H: Host, J: ServiceBrand + Send>(
     requires quiet { IsQuiet publisher.phase }
     requires of { IsNamed J.book J.base J.ours_first publisher }
     requires seats { (seats.book ≡ J.book) × (seats.base ≡ J.base) }
-    ensures { (shifts : List Work) × IsLeft H.Store.Store J.book J.base J.ours_first shifts result.1 × (fault_of result.0 ≡ None → length shifts ≡ context.now.asked.now.workers) }
+    ensures { (shifts : List Work) × IsLeft H.Store.Store J.book J.base J.ours_first shifts result.1
+        × (fault_of result.0 ≡ None → length shifts ≡ context.now.asked.now.workers) }
 {
     let service: Service<H::Store, J> = Service::new(publisher, seats, domain);
-    let Worked { end, shifts } = serve_reporting(context, &service, doors);
+    let Worked { end, shifts } = serve_with_gate(context, &service, doors);
     let Released { conn, published } = service.end(context.rt);
     if are_kept(&published, shifts.as_slice()) {
         (end, conn)

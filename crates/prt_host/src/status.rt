@@ -64,9 +64,9 @@ pub(crate) fn sizes_of<F: Measures>(
 
 /// A value that may not be known.
 #[derive(Drop)]
-struct Known<T: Drop>(Option<T>);
+struct OrDash<T: Drop>(Option<T>);
 
-impl<T: fmt::Display + Drop> fmt::Display for Known<T> {
+impl<T: fmt::Display + Drop> fmt::Display for OrDash<T> {
     fn fmt<W: fmt::Write>(&self, f: &mut fmt::Formatter<W>) -> fmt::Result {
         match &self.0 {
             Some(value) => write!(f, "{value}"),
@@ -92,8 +92,8 @@ fn tables_text(alloc: Global, figures: &Figures) -> Result<String, AllocError> {
         .version
         .as_ref()
         .and_then(|version| contents_of(version).ok());
-    let routes = Known(contents.map(|contents| contents.routes));
-    let tables = Known(contents.map(|contents| contents.tables));
+    let routes = OrDash(contents.map(|contents| contents.routes));
+    let tables = OrDash(contents.map(|contents| contents.tables));
     format!(in alloc;
         "number {}\nrules {}\nroutes {routes}\ntables {tables}\n",
         figures.number, figures.rules
@@ -122,20 +122,20 @@ fn clients_text(alloc: Global, status: &Status) -> Result<String, AllocError> {
 /// Says what was stored, and where.
 fn stored_text(alloc: Global, status: &Status) -> Result<String, AllocError> {
     let tally = &status.figures.tally;
-    let at = Known(
+    let at = OrDash(
         tally
             .last
             .and_then(|commit| commit.at)
             .map(|at| at.as_secs()),
     );
-    let took = Known(tally.last.map(|commit| Milliseconds(commit.took)));
+    let took = OrDash(tally.last.map(|commit| Milliseconds(commit.took)));
     format!(in alloc;
         "groups {}\ngroup_commands {}\nlast_commit_unix_seconds {at}\nlast_commit_milliseconds {took}\n\
          file_bytes {}\nlog_bytes {}\n",
         tally.groups,
         tally.commands,
-        Known(status.sizes.file),
-        Known(status.sizes.log)
+        OrDash(status.sizes.file),
+        OrDash(status.sizes.log)
     )
 }
 

@@ -55,4 +55,5 @@ pub record AreGroups (sameness : Sameness) (before after : State) (groups : List
   -- what they say is so
   pub sound : Each (IsGroup sameness before after) groups
   -- no packet is missing
-  pub complete : (packet : Packet) → IsPacket packet → ¬ AreSame sameness (select before packet) (select after packet) → list_any (in_group (rules_of before after) packet) groups ≡ true
+  pub complete : (packet : Packet) → IsPacket packet → ¬ AreSame sameness (select before packet) (select after packet) →
+      list_any (in_group (rules_of before after) packet) groups ≡ true

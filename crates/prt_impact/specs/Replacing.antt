@@ -14,7 +14,8 @@ use Rattle.prt_impact.specs.declared.group.InterfaceSet.{InterfaceSet}
 -- If what the old groups say is so, then so is what the new ones say, and they have each packet that the old ones have.
 pub record Replaces (sameness : Sameness) (before after : State) (old new : List Group) : Type 0 where
   pub sound : Each (IsGroup sameness before after) old → Each (IsGroup sameness before after) new
-  pub complete : Each (IsGroup sameness before after) old → (packet : Packet) → IsPacket packet → list_any (in_group (rules_of before after) packet) old ≡ true → list_any (in_group (rules_of before after) packet) new ≡ true
+  pub complete : Each (IsGroup sameness before after) old → (packet : Packet) → IsPacket packet →
+      list_any (in_group (rules_of before after) packet) old ≡ true → list_any (in_group (rules_of before after) packet) new ≡ true
 
 -- whatever the two versions are
 abbrev pub AlwaysReplaces : List Group → List Group → Type 0
@@ -26,7 +27,8 @@ AreAll rules interfaces = (iif : Word) → list_any (λ one. takes_interface rul
 
 -- whatever the two versions are, if each interface is one of these by their rules
 abbrev pub ReplacesIfAll : List InterfaceSet → List Group → List Group → Type 0
-ReplacesIfAll interfaces old new = (sameness : Sameness) (before after : State) → AreAll (rules_of before after) interfaces → Replaces sameness before after old new
+ReplacesIfAll interfaces old new = (sameness : Sameness) (before after : State) → AreAll (rules_of before after) interfaces →
+    Replaces sameness before after old new
 
 -- whatever the two versions are, if they have these rules
 abbrev pub ReplacesAt : List Rule → List Group → List Group → Type 0

@@ -88,7 +88,8 @@ whole_of a b = record { mark = bit_and a.mark b.mark; mask = bit_xor a.mask (bit
 abbrev pub are_halves : ℕ → Mark → Mark → Mark → Bool
 are_halves place block a b =
     bit block.mask place == 0
-    && ((is_same_mark a (kept place block) && is_same_mark b (flipped place block)) || (is_same_mark b (kept place block) && is_same_mark a (flipped place block)))
+    && ((is_same_mark a (kept place block) && is_same_mark b (flipped place block))
+    || (is_same_mark b (kept place block) && is_same_mark a (flipped place block)))
 
 abbrev pub with_interfaces : Group → InterfaceSet → Group
 with_interfaces group interfaces = record group { interfaces = interfaces }

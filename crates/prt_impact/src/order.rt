@@ -1,6 +1,7 @@
 //! The orders that bring together the groups that may be joined.
 ghost use Rattle.std.specs.Prelude.{◌≡◌};
-ghost use Rattle.prt_impact.specs.Orders.{by_interface, by_place, by_source, by_verdicts, first_of, interfaces_cmp, last_of, mark_cmp, marks_cmp, name_of, place_of, priority_of, rank_of, verdict_cmp};
+ghost use Rattle.prt_impact.specs.Orders.{by_interface, by_place, by_source, by_verdicts, first_of, interfaces_cmp, last_of, mark_cmp, marks_cmp};
+ghost use Rattle.prt_impact.specs.Orders.{name_of, place_of, priority_of, rank_of, verdict_cmp};
 
 use crate::group::{Group, InterfaceSet};
 use crate::mark_set::{MOST_BLOCKS, MarkSet, NO_MARK};

@@ -5,7 +5,8 @@ ghost use Rattle.prt_listing.specs.Parts.{mark_text, table_text};
 ghost use Rattle.prt_listing.specs.RouteText.{route_text};
 ghost use Rattle.prt_listing.specs.RuleText.{action_text};
 ghost use Rattle.prt_listing.specs.declared.route.TablePart.TheVariants.{LeftOut};
-ghost use Rattle.prt_impact.specs.Text.{blocks_text, from_text, fwmark_text, iif_text, is_all_of, is_every_mark, is_everything, more_text, packets_text, prefix_of, range_text, verdict_text};
+ghost use Rattle.prt_impact.specs.Text.{blocks_text, from_text, fwmark_text, iif_text, is_all_of, is_every_mark, is_everything, more_text};
+ghost use Rattle.prt_impact.specs.Text.{packets_text, prefix_of, range_text, verdict_text};
 
 use crate::group::{AddrRange, Group, InterfaceSet};
 use crate::mark_set::MarkSet;

@@ -6,3 +6,4 @@ pub mod Executing
 pub mod NamedPieces
 pub mod Counting
 pub mod Options
+pub mod IpJson

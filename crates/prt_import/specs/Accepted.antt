@@ -27,12 +27,18 @@ refused_line line (Some refusal) = remark line [] (reasons.Refused refusal) ∷ 
 
 -- this line before the others: accepted, or refused for this
 abbrev pub onto : Numbered → Option Refusal → Executed → Executed
-onto line refusal others = record { script = accepted_line line.content refusal ++ others.script; state = others.state; left = refused_line line refusal ++ others.left }
+onto line refusal others = record {
+  script = accepted_line line.content refusal ++ others.script;
+  state = others.state;
+  left =
+      refused_line line refusal ++ others.left;
+}
 
 -- the lines from this number on, over this state, which stays if one is refused
 abbrev pub executed : State → ℕ → List (List ℕ) → Executed
 executed state number [] = record { script = []; state = state; left = [] }
-executed state number (line ∷ lines) = onto (record { number = number; content = line }) (line_refusal state line) (executed (line_state state line) (number + 1) lines)
+executed state number (line ∷ lines) =
+    onto (record { number = number; content = line }) (line_refusal state line) (executed (line_state state line) (number + 1) lines)
 
 -- these lines were added, this is the version then, and this was reported
 pub record Extends (old new : Accepted) (added : List ℕ) (after : State) (told : List Remark) : Type 0 where

@@ -1,5 +1,6 @@
 -- The comments of a script, which say what was left out of it.
-use Rattle.std.specs.Prelude.{ℕ, Bool, true, ◌&&◌, ◌==◌, nat_lt, if◌then◌else◌, List, [], ◌++◌, Option, Some, None, Result, Ok, Err, drop, filter, flat_map, map, take, bytes_eq, codes, decimal, count_by}
+use Rattle.std.specs.Prelude.{ℕ, Bool, true, ◌&&◌, ◌==◌, nat_lt, if◌then◌else◌, List, [], ◌++◌, Option, Some, None, Result, Ok, Err, drop, filter}
+use Rattle.std.specs.Prelude.{flat_map, map, take, bytes_eq, codes, decimal, count_by}
 use Rattle.prt_addr.specs.Block.{Block}
 use Rattle.prt_addr.specs.Prefix.{contains, prefix}
 use Rattle.prt_addr.specs.Word.{Word}

@@ -9,7 +9,14 @@ use Rattle.prt_import.specs.declared.reason.Reason.{Reason}
 
 -- the parts that it has
 abbrev pub parts_in : Draft → Parts
-parts_in draft = record { rules = draft.rules.items; direct = draft.direct.items; through = draft.through.items; left = map remark_of draft.left.items; notes = map remark_of draft.notes.items }
+parts_in draft = record {
+  rules = draft.rules.items;
+  direct = draft.direct.items;
+  through = draft.through.items;
+  left =
+      map remark_of draft.left.items;
+  notes = map remark_of draft.notes.items;
+}
 
 -- this was added, and what is known of the lines is the same
 pub record Adds (old new : Draft) (parts : Parts) : Type 0 where

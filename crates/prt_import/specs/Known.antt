@@ -27,8 +27,12 @@ route_words =
     ∷ (codes "onlink", Out reasons.OnLink)
     ∷ (codes "dead", Out reasons.Dead)
     ∷ (codes "linkdown", Told reasons.LinkDown)
-    ∷ each State (codes "pervasive" ∷ codes "offload" ∷ codes "trap" ∷ codes "notify" ∷ codes "unresolved" ∷ codes "rt_offload" ∷ codes "rt_trap" ∷ codes "rt_offload_failed" ∷ [])
-    ++ each (Before Metric) (codes "mtu" ∷ codes "advmss" ∷ codes "window" ∷ codes "rtt" ∷ codes "rttvar" ∷ codes "rto_min" ∷ codes "ssthresh" ∷ codes "cwnd" ∷ codes "initcwnd" ∷ codes "initrwnd" ∷ codes "reordering" ∷ codes "hoplimit" ∷ codes "features" ∷ codes "quickack" ∷ codes "congctl" ∷ codes "fastopen_no_cookie" ∷ codes "realm" ∷ codes "realms" ∷ codes "expires" ∷ codes "ttl-propagate" ∷ [])
+    ∷ each State (codes "pervasive" ∷ codes "offload" ∷ codes "trap" ∷ codes "notify" ∷ codes "unresolved" ∷ codes "rt_offload"
+    ∷ codes "rt_trap" ∷ codes "rt_offload_failed" ∷ [])
+    ++ each (Before Metric) (codes "mtu" ∷ codes "advmss" ∷ codes "window" ∷ codes "rtt" ∷ codes "rttvar" ∷ codes "rto_min"
+    ∷ codes "ssthresh" ∷ codes "cwnd" ∷ codes "initcwnd" ∷ codes "initrwnd" ∷ codes "reordering" ∷ codes "hoplimit" ∷ codes "features"
+    ∷ codes "quickack" ∷ codes "congctl" ∷ codes "fastopen_no_cookie" ∷ codes "realm" ∷ codes "realms" ∷ codes "expires"
+    ∷ codes "ttl-propagate" ∷ [])
     ++ (codes "tcp_usec_ts", Told reasons.Metric)
     ∷ (codes "nexthop", Out reasons.SeveralNextHops)
     ∷ (codes "nhid", Out reasons.NextHopObject)
@@ -50,7 +54,8 @@ rule_words =
     ∷ each Alone (codes "blackhole" ∷ codes "unreachable" ∷ codes "prohibit" ∷ [])
     ++ (codes "proto", Before RuleProtocol)
     ∷ (codes "[detached]", State)
-    ∷ each (Out reasons.Selector) (codes "tos" ∷ codes "dsfield" ∷ codes "dscp" ∷ codes "flowlabel" ∷ codes "oif" ∷ codes "ipproto" ∷ codes "sport" ∷ codes "dport" ∷ codes "tun_id" ∷ codes "uidrange" ∷ codes "l3mdev" ∷ codes "realms" ∷ codes "suppress_ifgroup" ∷ [])
+    ∷ each (Out reasons.Selector) (codes "tos" ∷ codes "dsfield" ∷ codes "dscp" ∷ codes "flowlabel" ∷ codes "oif" ∷ codes "ipproto"
+    ∷ codes "sport" ∷ codes "dport" ∷ codes "tun_id" ∷ codes "uidrange" ∷ codes "l3mdev" ∷ codes "realms" ∷ codes "suppress_ifgroup" ∷ [])
     ++ each (Out reasons.Action) (codes "goto" ∷ codes "nop" ∷ codes "throw" ∷ codes "nat" ∷ codes "map-to" ∷ codes "masquerade" ∷ codes "[unresolved]" ∷ [])
 
 abbrev pub meaning_in : List Known → Word → Option Meaning

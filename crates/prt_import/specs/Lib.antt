@@ -16,3 +16,4 @@ pub mod ScriptLines
 pub mod Accepted
 pub mod Listed
 pub mod Keys
+pub mod IpJson

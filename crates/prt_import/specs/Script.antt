@@ -25,7 +25,14 @@ no_parts = record { rules = []; direct = []; through = []; left = []; notes = []
 
 infixl 6 ◌and◌
 abbrev pub ◌and◌ : Parts → Parts → Parts
-p and q = record { rules = p.rules ++ q.rules; direct = p.direct ++ q.direct; through = p.through ++ q.through; left = p.left ++ q.left; notes = p.notes ++ q.notes }
+p and q = record {
+  rules = p.rules ++ q.rules;
+  direct = p.direct ++ q.direct;
+  through = p.through ++ q.through;
+  left =
+      p.left ++ q.left;
+  notes = p.notes ++ q.notes;
+}
 
 -- a line that is left out, for this word
 abbrev pub left_out : Numbered → Word → Reason → Parts
@@ -47,7 +54,8 @@ abbrev pub added_part : RouteText → Parts
 added_part route = if route.has_gateway then record no_parts { through = route.line ++ codes "\n" } else record no_parts { direct = route.line ++ codes "\n" }
 
 abbrev pub left_route : KnownNames → Numbered → List Word → Reason → Parts
-left_route names line ws reasons.Type = if is_kernels ws then left_out line [] reasons.Kernel else left_out line (fault_word names Route Destination ws) reasons.Type
+left_route names line ws reasons.Type =
+    if is_kernels ws then left_out line [] reasons.Kernel else left_out line (fault_word names Route Destination ws) reasons.Type
 left_route names line ws reasons.Json = left_out line [] reasons.Json
 left_route names line ws reason = left_out line (fault_word names Route Destination ws) reason
 

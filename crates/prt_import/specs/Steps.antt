@@ -39,7 +39,8 @@ settles_scope next written = record { written = written; next = next; settles_sc
 
 -- the protocols for which a line has numbers alone
 abbrev pub other_protocols : List (Word × ℕ)
-other_protocols = (codes "unspec", 0) ∷ (codes "redirect", 1) ∷ (codes "gated", 8) ∷ (codes "mrt", 10) ∷ (codes "dnrouted", 13) ∷ (codes "xorp", 14) ∷ (codes "ntk", 15) ∷ (codes "keepalived", 18) ∷ (codes "babel", 42) ∷ (codes "openr", 99) ∷ (codes "eigrp", 192) ∷ []
+other_protocols = (codes "unspec", 0) ∷ (codes "redirect", 1) ∷ (codes "gated", 8) ∷ (codes "mrt", 10) ∷ (codes "dnrouted", 13)
+    ∷ (codes "xorp", 14) ∷ (codes "ntk", 15) ∷ (codes "keepalived", 18) ∷ (codes "babel", 42) ∷ (codes "openr", 99) ∷ (codes "eigrp", 192) ∷ []
 
 -- a table: by the names of the host, and else as a line would say it
 abbrev pub table_by : Option ℕ → Result ℕ Refusal → Word → Result Written Reason

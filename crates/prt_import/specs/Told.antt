@@ -81,7 +81,8 @@ then_notes first (Ok step) next = first ++ next step
 -- what is reported of the words from this place of a line on
 abbrev pub notes_of : KnownNames → Object → Numbered → Place → List Word → List Remark
 notes_of names object line place [] = []
-notes_of names object line place (w ∷ ws) = then_notes (noted line w (note_of object place w)) (step_of names object place w) (λ step. notes_of names object line step.next ws)
+notes_of names object line place (w ∷ ws) =
+    then_notes (noted line w (note_of object place w)) (step_of names object place w) (λ step. notes_of names object line step.next ws)
 
 -- ---- routes that the kernel makes: with its protocol
 

@@ -75,7 +75,8 @@ impl Accepted {
     /// Executes a line.
     fn take(&mut self, alloc: Global, source: Source<'_>) -> Result<(), Refusal>
         ensures ok { OnOk result (let refusal = line_refusal self.old.version source.entry.line.now in
-            Extends self.old self.new (accepted_line source.entry.line.now refusal) (line_state self.old.version source.entry.line.now) (refused_line (numbered source.entry) refusal)) }
+            Extends self.old self.new (accepted_line source.entry.line.now refusal) (line_state self.old.version source.entry.line.now)
+            (refused_line (numbered source.entry) refusal)) }
         ensures err { IfErr result (λ refusal. refusal ≡ NoMemory) }
     {
         match next_version(&self.version, source.line) {

@@ -1,7 +1,8 @@
 //! The comments of a script, which say what was left out of it.
 ghost use Rattle.std.specs.Prelude.{◌≡◌, ◌++◌, drop, flat_map, IfOk, map, OnOk, take};
 ghost use Rattle.prt_command.specs.Reading.{words};
-ghost use Rattle.prt_import.specs.Comments.{comment, comments, concerns, count_body, count_comment, is_left_out, kernel_routes, left_out, may_be_for, remark_body, remark_comment, shown_byte, spaced_words};
+ghost use Rattle.prt_import.specs.Comments.{comment, comments, concerns, count_body, count_comment, is_left_out, kernel_routes, left_out, may_be_for};
+ghost use Rattle.prt_import.specs.Comments.{remark_body, remark_comment, shown_byte, spaced_words};
 ghost use Rattle.prt_import.specs.Keys.{destination_of};
 ghost use Rattle.prt_import.specs.Told.{remark_of};
 

@@ -181,7 +181,9 @@ impl Draft {
         source: Source<'_>,
         added: &RouteLine,
     ) -> Result<(), AllocError>
-        ensures { OnOk result (Adds self.old self.new (route_by (known_names names.now) (numbered source.entry) (words source.entry.line.now) (Ok (record { line = added.now.line.items; has_gateway = added.now.has_gateway })))) }
+        ensures { OnOk result (Adds self.old self.new
+            (route_by (known_names names.now) (numbered source.entry) (words source.entry.line.now)
+            (Ok (record { line = added.now.line.items; has_gateway = added.now.has_gateway })))) }
     {
         self.push_route(added)?;
         let notes = &mut self.notes;
@@ -218,7 +220,9 @@ impl Draft {
         after: &[u8],
     ) -> Result<(), AllocError>
         ensures { (items : List Word) → words source.entry.line.now ≡ word.now ∷ items →
-            OnOk result (Adds self.old self.new (route_or_more (known_names names.now) self.old.is_in_route (numbered source.entry) word.now items (continuation_of word.now) (continuation (lines_of after.now)))) }
+            OnOk result (Adds self.old self.new
+            (route_or_more (known_names names.now) self.old.is_in_route (numbered source.entry) word.now items
+            (continuation_of word.now) (continuation (lines_of after.now)))) }
     {
         match (continuation_of(word), continuation(after)) {
             (None, None) => self.take_route(names, source),
@@ -239,7 +243,8 @@ impl Draft {
         source: Source<'_>,
         after: &[u8],
     ) -> Result<(), AllocError>
-        ensures { OnOk result (Takes self.old self.new (known_names names.now) (numbered source.entry) (words source.entry.line.now) (continuation (lines_of after.now))) }
+        ensures { OnOk result (Takes self.old self.new (known_names names.now) (numbered source.entry) (words source.entry.line.now)
+            (continuation (lines_of after.now))) }
     {
         let Some((word, items)) = next_word(source.line) else {
             self.is_in_route = false;

@@ -7,6 +7,7 @@ mod comments;
 mod draft;
 mod fault;
 mod imported;
+pub mod ip_json;
 mod keys;
 mod known;
 mod laws;

@@ -4,7 +4,10 @@ ghost use Rattle.std.specs.List.{list_all, list_any};
 ghost use Rattle.prt_addr.specs.Word.{is_one_of};
 ghost use Rattle.prt_command.specs.Reading.{words};
 ghost use Rattle.prt_import.specs.Lines.{lines_of};
-ghost use Rattle.prt_import.specs.Listed.{any_has, begins, destination_sign, detailed_protocols, ends_with, form_fault, has, has_colon, is_address, is_address_byte, is_numeric_item, is_number, line_sign, lines_sign, listing_fault, numbered_protocols, numbered_scopes, numbered_tables, pair_sign, preferences, route_sign, rule_sign, sign_after, tells_protocol};
+ghost use Rattle.prt_import.specs.Listed.{any_has, begins, destination_sign, detailed_protocols, ends_with, form_fault, has, has_colon, is_address};
+ghost use Rattle.prt_import.specs.Listed.{is_address_byte, is_numeric_item, is_number, line_sign, lines_sign, listing_fault, numbered_protocols};
+ghost use Rattle.prt_import.specs.Listed.{numbered_scopes, numbered_tables, pair_sign, preferences, route_sign, rule_sign, sign_after};
+ghost use Rattle.prt_import.specs.Listed.{tells_protocol};
 ghost use Rattle.prt_import.specs.Script.{is_rule};
 
 use crate::known::Object;

@@ -62,7 +62,8 @@ fn first_separator(form: Text, text: &[u8]) -> Option<usize>
 /// Takes the first piece of a text, if a separator ends it.
 fn next_piece(form: Text, text: &[u8]) -> Option<Cut<'_>>
     ensures { MatchOption result (pieces form text.now ≡ record { word = text.now; ended = [] } ∷ [])
-        (λ cut. (pieces form text.now ≡ record { word = cut.piece.now; ended = cut.separator ∷ [] } ∷ pieces form cut.rest.now) × (length cut.rest.now < length text.now)) }
+        (λ cut. (pieces form text.now ≡ record { word = cut.piece.now; ended = cut.separator ∷ [] } ∷ pieces form cut.rest.now)
+        × (length cut.rest.now < length text.now)) }
 {
     let at = first_separator(form, text)?;
     Some(Cut {

@@ -90,7 +90,8 @@ pub(crate) struct RouteLine {
 ///
 /// `Left` if there is no such line, `NoMemory` if memory is refused.
 pub(crate) fn route_line(alloc: Global, names: &HostNames, text: &[u8]) -> Result<RouteLine, Fault>
-    ensures ok { IfOk result (λ made. route_line (known_names names.now) (words text.now) ≡ Ok (record { line = made.line.items; has_gateway = made.has_gateway })) }
+    ensures ok { IfOk result (λ made.
+        route_line (known_names names.now) (words text.now) ≡ Ok (record { line = made.line.items; has_gateway = made.has_gateway })) }
     ensures err { IfErr result (λ fault. IsWhy (route_line (known_names names.now) (words text.now)) fault) }
 {
     let line = route_text(alloc, names, text)?;

@@ -2,7 +2,9 @@
 ghost use Rattle.std.specs.Prelude.{◌≡◌, map};
 ghost use Rattle.prt_addr.specs.Word.{is_one_of};
 ghost use Rattle.prt_route.specs.Names.{number_in};
-ghost use Rattle.prt_import.specs.Steps.{address_value, before, destination_step, dropping_types, ends_item, is_json, is_kept, is_other_family, item_step, mark_value, other_protocols, other_types, protocol_value, settles_scope, step_of, table_value, value_step};
+ghost use Rattle.prt_import.specs.Steps.{address_value, before, destination_step, dropping_types, ends_item, is_json, is_kept, is_other_family};
+ghost use Rattle.prt_import.specs.Steps.{item_step, mark_value, other_protocols, other_types, protocol_value, settles_scope, step_of, table_value};
+ghost use Rattle.prt_import.specs.Steps.{value_step};
 ghost use Rattle.prt_import.specs.TableNames.{known_names};
 
 use crate::known::{Meaning, Object, Role, meaning_of};

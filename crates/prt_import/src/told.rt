@@ -55,7 +55,8 @@ fn push_note(
     place: Place,
     word: &[u8],
 ) -> Result<(), AllocError>
-    ensures { OnOk result (map remark_of notes.new.items ≡ map remark_of notes.old.items ++ noted (numbered source.entry) word.now (note_of object place word.now)) }
+    ensures { OnOk result (map remark_of notes.new.items
+        ≡ map remark_of notes.old.items ++ noted (numbered source.entry) word.now (note_of object place word.now)) }
 {
     match note_of(object, place, word) {
         Some(reason) => {
@@ -76,7 +77,8 @@ pub(crate) fn push_notes(
     place: Place,
     text: &[u8],
 ) -> Result<(), AllocError>
-    ensures { OnOk result (map remark_of notes.new.items ≡ map remark_of notes.old.items ++ notes_of (known_names names.now) object (numbered source.entry) place (words text.now)) }
+    ensures { OnOk result (map remark_of notes.new.items
+        ≡ map remark_of notes.old.items ++ notes_of (known_names names.now) object (numbered source.entry) place (words text.now)) }
 {
     let mut place = place;
     let mut rest = text;

@@ -48,7 +48,8 @@ pub(crate) fn push_words(
     place: Place,
     text: &[u8],
 ) -> Result<bool, Fault>
-    ensures ok { IfOk result (λ is_settled. IsTranslated out.old.items out.new.items is_settled (translated (known_names names.now) object place (words text.now))) }
+    ensures ok { IfOk result (λ is_settled.
+        IsTranslated out.old.items out.new.items is_settled (translated (known_names names.now) object place (words text.now))) }
     ensures err { IfErr result (λ fault. IsWhy (translated (known_names names.now) object place (words text.now)) fault) }
 {
     let mut place = place;

@@ -31,4 +31,5 @@ all_tables = record { table = None; range = All; kind = None; proto = None; scop
 -- how many commands were accepted, the rules, and the routes of all tables
 abbrev pub tables_json : State → Json
 tables_json state =
-    object_of (number_field (codes "number") (Some state.count) ∷ Some (codes "rules", rules_json state) ∷ Some (codes "routes", routes_json state all_tables) ∷ [])
+    object_of (number_field (codes "number") (Some state.count) ∷ Some (codes "rules", rules_json state)
+    ∷ Some (codes "routes", routes_json state all_tables) ∷ [])

@@ -6,7 +6,8 @@ ghost use Rattle.prt_rule.specs.declared.rule.Action.TheVariants.{Lookup};
 ghost use Rattle.prt_version.specs.Select.{verdict_by};
 ghost use Rattle.prt_explain.specs.Explanation.{first_mismatch};
 ghost use Rattle.json.specs.Tree.{json_tokens};
-ghost use Rattle.prt_json.specs.ExplanationJson.{asked_json, asked_rules_json, decides, explanation_json, lookup_fields, match_fields, packet_fields, route_field, truth_field};
+ghost use Rattle.prt_json.specs.ExplanationJson.{asked_json, asked_rules_json, decides, explanation_json, lookup_fields, match_fields, packet_fields};
+ghost use Rattle.prt_json.specs.ExplanationJson.{route_field, truth_field};
 ghost use Rattle.prt_json.specs.Fields.{text_field};
 ghost use Rattle.prt_json.specs.Steps.{asked_tokens, fields_tokens, member_of, members_of};
 
@@ -78,7 +79,10 @@ fn push_found(
     found: &Found,
     suppressed: bool,
 ) -> Result<(), AllocError>
-    ensures ok { OnOk result (out.new.tokens ≡ out.old.tokens ++ fields_tokens (route_field (codes "found") (Some found.now.best) ∷ route_field (codes "runner_up") found.now.runner_up ∷ truth_field (codes "suppressed") suppressed ∷ [])) }
+    ensures ok { OnOk result (out.new.tokens
+        ≡ out.old.tokens ++ fields_tokens
+        (route_field (codes "found") (Some found.now.best) ∷ route_field (codes "runner_up") found.now.runner_up
+        ∷ truth_field (codes "suppressed") suppressed ∷ [])) }
     ensures before { out.new.before ≡ out.old.before }
 {
     push_route(out, alloc, "found", &Some(found.best))?;
@@ -118,7 +122,9 @@ fn push_action(
     version: &Version,
     packet: &Packet,
 ) -> Result<bool, AllocError>
-    ensures ok { OnOk result (out.new.tokens ≡ out.old.tokens ++ fields_tokens (if matches rule.now packet.now then lookup_fields rule.now.action rule.now.suppress version.now.routes packet.now.dst else [])) }
+    ensures ok { OnOk result (out.new.tokens
+        ≡ out.old.tokens ++ fields_tokens
+        (if matches rule.now packet.now then lookup_fields rule.now.action rule.now.suppress version.now.routes packet.now.dst else [])) }
     ensures decides { IfOk result (λ it. it ≡ decides version.now.routes packet.now rule.now) }
     ensures before { out.new.before ≡ out.old.before }
 {

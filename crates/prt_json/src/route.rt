@@ -1,7 +1,8 @@
 //! The fields of a route, as `ip -j route show` names them.
 ghost use Rattle.std.specs.Prelude.{◌≡◌};
 ghost use Rattle.prt_json.specs.Json.{all_tables};
-ghost use Rattle.prt_json.specs.RouteJson.{destinations_field, gateway_field, metric_field, prefsrc_field, protocol_field, route_fields, route_dev_field, scope_field, table_field, type_field};
+ghost use Rattle.prt_json.specs.RouteJson.{destinations_field, gateway_field, metric_field, prefsrc_field, protocol_field, route_fields};
+ghost use Rattle.prt_json.specs.RouteJson.{route_dev_field, scope_field, table_field, type_field};
 ghost use Rattle.prt_json.specs.Steps.{member_of, members_of};
 
 use crate::field::{Field, Value, addr_field, dev_field, empty_field, name_or_digits, table_value};

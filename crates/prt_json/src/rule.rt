@@ -1,7 +1,8 @@
 //! The fields of a rule, as `ip -j rule show` names them.
 ghost use Rattle.std.specs.Prelude.{◌≡◌, codes};
 ghost use Rattle.prt_json.specs.Fields.{number_field, text_field};
-ghost use Rattle.prt_json.specs.RuleJson.{action_field, dst_field, failure, fwmark_field, fwmask_field, not_field, rule_fields, shown_len, shown_mark, src_field};
+ghost use Rattle.prt_json.specs.RuleJson.{action_field, dst_field, failure, fwmark_field, fwmask_field, not_field, rule_fields, shown_len};
+ghost use Rattle.prt_json.specs.RuleJson.{shown_mark, src_field};
 ghost use Rattle.prt_json.specs.Steps.{member_of, members_of};
 
 use crate::field::{Field, Value, dev_field, table_value};

@@ -2,23 +2,23 @@
 use Rattle.std.proofs.Common.{◌≡◌, List, [], ◌∷◌, ◌++◌, sym, subst, Bool, true, false, Some, None, refl, cond, ℕ, ◌+◌, ◌-◌, ◌≤◌, length, ap, ◌∙◌, arith}
 use Rattle.prt_version.specs.State.{State}
 use Rattle.std.specs.List.{AllByRecursion as Each}
-use Rattle.prt_world.specs.Durability.{IsAcknowledged, IsAnswered}
-use Rattle.prt_world.specs.World.{Ack, Lookup, World, Phase as Moment, LookerState, Step, looker_state, offline, online, run_from, step, acks_after}
-use Rattle.prt_world.proofs.Claims.{acknowledged_of, answered_of, durable_of}
-use Rattle.prt_world.proofs.Phases.{Holds, Phased}
+use Rattle.prt_replay.specs.Durability.{IsAcknowledged, IsAnswered}
+use Rattle.prt_replay.specs.World.{Ack, Lookup, World, Phase as Moment, LookerState, Step, looker_state, offline, online, run_from, step, acks_after}
+use Rattle.prt_replay.proofs.Claims.{acknowledged_of, answered_of, durable_of}
+use Rattle.prt_replay.proofs.Phases.{Holds, Phased}
 use Rattle.prt_laws.specs.Runs.{HoldsAll}
 use Rattle.prt_rule.specs.declared.packet.Packet.{Packet}
 use Rattle.prt_version.specs.declared.answer.Answer.{Answer}
-use Rattle.prt_world.specs.World as world
-use Rattle.prt_world.specs.declared.event.Event.{Event}
-use Rattle.prt_world.specs.declared.event.Event.TheVariants as events
-use Rattle.prt_world.specs.declared.outcome.Outcome.TheVariants as outcomes
+use Rattle.prt_replay.specs.World as world
+use Rattle.prt_replay.specs.declared.event.Event.{Event}
+use Rattle.prt_replay.specs.declared.event.Event.TheVariants as events
+use Rattle.prt_replay.specs.declared.outcome.Outcome.TheVariants as outcomes
 use Rattle.prt_laws.proofs.Keeping.{most_keep, Keeps, unless_keeps}
 use Rattle.std.proofs.lemmas.List.{append-nil}
 use Rattle.prt_refusals.specs.declared.refusal.StoreCall.{StoreCall}
 use Rattle.prt_command.specs.declared.request.Command.{Command}
 use Rattle.prt_published.specs.Line.{Line, line_state}
-use Rattle.prt_world.specs.declared.event.Fate.{Fate}
+use Rattle.prt_replay.specs.declared.event.Fate.{Fate}
 use Rattle.prt_laws.specs.Events.{AsksSome, acks_to, commit_events, fail_events, is_lookers, own, stop_events}
 use Rattle.prt_laws.specs.Spots.{IsAt}
 use Rattle.prt_laws.proofs.Between.{stays_there}

@@ -11,13 +11,13 @@ use Rattle.prt_grace.specs.declared.limits.TheConstants.{MOST_RETIRED}
 use Rattle.prt_rule.specs.declared.packet.Packet.{Packet}
 use Rattle.prt_version.specs.Change.{fold}
 use Rattle.prt_version.specs.State.{State, opening_state}
-use Rattle.prt_world.specs.World as world
-use Rattle.prt_world.specs.World.{Phase as Moment, LookerState, Step, World, announced_by, has_room, looker_state, offline, online, published_version, step}
-use Rattle.prt_world.specs.declared.event.Event.{Event}
-use Rattle.prt_world.specs.declared.event.Event.TheVariants as events
-use Rattle.prt_world.proofs.History.{not_retired, stays}
-use Rattle.prt_world.proofs.KeptVersions.{kept_filtered}
-use Rattle.prt_world.proofs.Phases.{Holds, Phased}
+use Rattle.prt_replay.specs.World as world
+use Rattle.prt_replay.specs.World.{Phase as Moment, LookerState, Step, World, announced_by, has_room, looker_state, offline, online, published_version, step}
+use Rattle.prt_replay.specs.declared.event.Event.{Event}
+use Rattle.prt_replay.specs.declared.event.Event.TheVariants as events
+use Rattle.prt_replay.proofs.History.{not_retired, stays}
+use Rattle.prt_replay.proofs.KeptVersions.{kept_filtered}
+use Rattle.prt_replay.proofs.Phases.{Holds, Phased}
 use Rattle.prt_laws.specs.Spots.{HasRoom, IsAt, IsReached, IsTold, Spot}
 use Rattle.prt_laws.specs.Events.{is_lookers}
 use Rattle.prt_laws.proofs.Steps.{disk_after, holds_of, phased_of, reached_run}

@@ -15,13 +15,13 @@ use Rattle.prt_version.proofs.Folds.{accepted_all, count_fold, fold_append}
 use Rattle.prt_version.specs.Accepted.{IsAccepted, or_later, refusal_all}
 use Rattle.prt_version.specs.Change.{fold, refusal}
 use Rattle.prt_version.specs.State.{State}
-use Rattle.prt_world.specs.World as world
-use Rattle.prt_world.specs.World.{Phase as Moment, World, has_room, published_version, run_from, step}
-use Rattle.prt_world.specs.declared.event.Event.{Event}
-use Rattle.prt_world.specs.declared.event.Event.TheVariants as events
-use Rattle.prt_world.specs.declared.event.Fate.TheVariants.{Kept, Lost}
-use Rattle.prt_world.specs.declared.outcome.Outcome.{Outcome}
-use Rattle.prt_world.specs.declared.outcome.Outcome.TheVariants as outcomes
+use Rattle.prt_replay.specs.World as world
+use Rattle.prt_replay.specs.World.{Phase as Moment, World, has_room, published_version, run_from, step}
+use Rattle.prt_replay.specs.declared.event.Event.{Event}
+use Rattle.prt_replay.specs.declared.event.Event.TheVariants as events
+use Rattle.prt_replay.specs.declared.event.Fate.TheVariants.{Kept, Lost}
+use Rattle.prt_replay.specs.declared.outcome.Outcome.{Outcome}
+use Rattle.prt_replay.specs.declared.outcome.Outcome.TheVariants as outcomes
 use Rattle.prt_laws.specs.Desks.{DeskHoldsAll, HasRoomFor, IsDeskOf, ListIsSteps, TurnIsSteps, Weaves, events_by, list_events_by, moment_between, reply_acks, result_acks, result_after, shown_reply, shown_result, submitted_events}
 use Rattle.prt_laws.specs.Events.{AsksSome, acks_to, asked, commit_events, commit_outcomes, fail_events, fail_outcomes, outcomes_before, own, own_outcomes, publish_events, publish_outcomes, submit_outcomes, unpublished_events, write_outcomes}
 use Rattle.prt_laws.specs.Spots.{IsAt, Spot}

@@ -15,14 +15,14 @@ use Rattle.prt_publisher.specs.declared.phase.Phase.TheVariants.{Ready, Admitted
 use Rattle.prt_version.specs.Accepted.{IsAccepted}
 use Rattle.prt_version.specs.Change.{fold}
 use Rattle.prt_version.specs.State.{State}
-use Rattle.prt_world.specs.World as world
-use Rattle.prt_world.specs.World.{Phase as Moment, LookerState, Step, World, acknowledge, call_after, has_room, is_stopped, published_version, reclaim, run_from, step, unmet}
-use Rattle.prt_world.specs.declared.event.Event.{Event}
-use Rattle.prt_world.specs.declared.event.Event.TheVariants as events
-use Rattle.prt_world.specs.declared.event.Fate.{Fate}
-use Rattle.prt_world.specs.declared.event.Fate.TheVariants.{Kept, Lost}
-use Rattle.prt_world.specs.declared.outcome.Outcome.{Outcome}
-use Rattle.prt_world.specs.declared.outcome.Outcome.TheVariants as outcomes
+use Rattle.prt_replay.specs.World as world
+use Rattle.prt_replay.specs.World.{Phase as Moment, LookerState, Step, World, acknowledge, call_after, has_room, is_stopped, published_version, reclaim, run_from, step, unmet}
+use Rattle.prt_replay.specs.declared.event.Event.{Event}
+use Rattle.prt_replay.specs.declared.event.Event.TheVariants as events
+use Rattle.prt_replay.specs.declared.event.Fate.{Fate}
+use Rattle.prt_replay.specs.declared.event.Fate.TheVariants.{Kept, Lost}
+use Rattle.prt_replay.specs.declared.outcome.Outcome.{Outcome}
+use Rattle.prt_replay.specs.declared.outcome.Outcome.TheVariants as outcomes
 use Rattle.prt_laws.specs.Laws.{DeclinesBy, FailsBy}
 use Rattle.prt_laws.specs.Spots.{IsAt, Spot}
 use Rattle.prt_laws.specs.Events.{AsksSome, asked, commit_events, commit_outcomes, events_before, fail_events, fail_outcomes, own, own_outcomes, note_events, note_outcomes, outcomes_before, write_events, write_outcomes}
@@ -34,7 +34,7 @@ use Rattle.prt_laws.proofs.Between.{is_less, is_not_less, room_published, stays_
 use Rattle.prt_laws.proofs.Keeping.{asks_storing, is_storing, storing_keeps}
 use Rattle.prt_laws.proofs.Registering.{registers_reclaimed, room_is}
 use Rattle.std.specs.Prelude.{nat_lt, length}
-use Rattle.prt_world.proofs.Phases.{Phased}
+use Rattle.prt_replay.proofs.Phases.{Phased}
 use Rattle.prt_laws.proofs.Steps.{Moves, acknowledges, begins, busy, commits, counts, disk_before, keeps, loses, notes, phased_of, publishes, publishes_not, takes, writes}
 use Rattle.prt_laws.proofs.Woven.{Goes, woven}
 

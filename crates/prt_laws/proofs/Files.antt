@@ -15,12 +15,12 @@ use Rattle.prt_version.proofs.Folds.{accepted_all, count_fold}
 use Rattle.prt_version.specs.Accepted.{refusal_all}
 use Rattle.prt_version.specs.Change.{fold}
 use Rattle.prt_version.specs.State.{State, opening_state}
-use Rattle.prt_world.specs.Durability.{IsAnswered}
-use Rattle.prt_world.specs.World.{Ack, World, acks_after, published_version, run_from, start, step}
-use Rattle.prt_world.specs.declared.event.Event.{Event}
-use Rattle.prt_world.specs.declared.event.Event.TheVariants as events
-use Rattle.prt_world.specs.declared.event.Fate.TheVariants.{Lost}
-use Rattle.prt_world.proofs.Claims.{answered_of}
+use Rattle.prt_replay.specs.Durability.{IsAnswered}
+use Rattle.prt_replay.specs.World.{Ack, World, acks_after, published_version, run_from, start, step}
+use Rattle.prt_replay.specs.declared.event.Event.{Event}
+use Rattle.prt_replay.specs.declared.event.Event.TheVariants as events
+use Rattle.prt_replay.specs.declared.event.Fate.TheVariants.{Lost}
+use Rattle.prt_replay.proofs.Claims.{answered_of}
 use Rattle.prt_laws.specs.Desks.{AreOffline, Does, FileIsRun, HasRoomFor, IsDeskOf, Sessions, SessionsHold, ShowsFile, ShowsList, Work, WorkTells, accepted_by, file, joined, list_events, list_events_by, read_commands, replies_acks, result_acks, script, work_acks}
 use Rattle.prt_laws.specs.Events.{own}
 use Rattle.prt_laws.specs.Spots.{IsReached}

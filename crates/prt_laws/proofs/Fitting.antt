@@ -7,11 +7,11 @@ use Rattle.prt_command.specs.declared.request.Command.{Command}
 use Rattle.prt_grace.specs.Registry.{RegistryState, new_registry}
 use Rattle.prt_rule.specs.declared.packet.Packet.{Packet}
 use Rattle.prt_version.specs.State.{State}
-use Rattle.prt_world.specs.World as world
-use Rattle.prt_world.specs.World.{Phase as Moment, LookerState, Step, World, looker_state, offline, online, run_from, step, Ack, Lookup, start}
-use Rattle.prt_world.specs.declared.event.Event.{Event}
-use Rattle.prt_world.specs.declared.event.Event.TheVariants as events
-use Rattle.prt_world.specs.declared.event.Fate.{Fate}
+use Rattle.prt_replay.specs.World as world
+use Rattle.prt_replay.specs.World.{Phase as Moment, LookerState, Step, World, looker_state, offline, online, run_from, step, Ack, Lookup, start}
+use Rattle.prt_replay.specs.declared.event.Event.{Event}
+use Rattle.prt_replay.specs.declared.event.Event.TheVariants as events
+use Rattle.prt_replay.specs.declared.event.Fate.{Fate}
 use Rattle.prt_laws.specs.Events.{AsksSome, events_before, fail_events, is_lookers, own, without_fate, asked, stop_events}
 use Rattle.prt_laws.specs.Registries.{registry_after, registry_through}
 use Rattle.prt_laws.proofs.Woven.{only_calls, heads, own_by, tails, by_own, own_asked}
@@ -26,7 +26,7 @@ use Rattle.prt_store.specs.Exits.{IsKnown, IsStored, MayLeave, Spells}
 use Rattle.prt_publisher.specs.Standing.{Agrees, Standing}
 use Rattle.prt_publisher.specs.declared.phase.Phase.{Phase}
 use Rattle.prt_publisher.specs.declared.phase.Phase.TheVariants.{Ready, Admitted, Prepared, Committed, Published, Closed}
-use Rattle.prt_world.specs.Durability.{IsAnswered}
+use Rattle.prt_replay.specs.Durability.{IsAnswered}
 use Rattle.prt_laws.specs.Laws.{BeginsAt, FailsBy, SubmitFailsBy}
 use Rattle.prt_laws.specs.Publishers.{AreBothOf, HasDisk}
 use Rattle.prt_laws.specs.Runs.{Act, Acts, ActsAll, EveryRunGoesOn, EveryRunLeaves, EveryStopLeaves, HoldsAll, SameButFates, act_answers, act_events, act_receipts, adopted, admitted, answers_of, beside, committed, declined, events_of, failed, looked, noted, planned, prepared, published, receipts_of, refused, seated, shown, stopped, submit_failed, submit_unpublished, submitted, unplanned, unshown}

@@ -5,9 +5,9 @@ use Rattle.sqlite.specs.Store.{Ghosts}
 use Rattle.prt_publisher.specs.Standing.{Standing}
 use Rattle.prt_publisher.specs.declared.phase.Phase.{Phase}
 use Rattle.prt_publisher.specs.declared.phase.Phase.TheVariants.{Admitted}
-use Rattle.prt_world.specs.World.{World, has_room, run_from, step}
-use Rattle.prt_world.specs.declared.event.Event.{Event}
-use Rattle.prt_world.specs.declared.outcome.Outcome.{Outcome}
+use Rattle.prt_replay.specs.World.{World, has_room, run_from, step}
+use Rattle.prt_replay.specs.declared.event.Event.{Event}
+use Rattle.prt_replay.specs.declared.outcome.Outcome.{Outcome}
 use Rattle.prt_laws.specs.Events.{is_lookers, own, own_outcomes}
 use Rattle.prt_laws.specs.Publishers.{Leads, LeadsTo, SawRoom, IsPublisherOf, moment_of}
 use Rattle.prt_version.specs.State.{State}

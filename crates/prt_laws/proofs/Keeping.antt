@@ -7,11 +7,11 @@ use Rattle.prt_grace.specs.declared.limits.TheConstants.{PLACES}
 use Rattle.prt_version.specs.Accepted.{refusal_all}
 use Rattle.prt_version.specs.Change.{fold}
 use Rattle.prt_version.specs.State.{State}
-use Rattle.prt_world.specs.World as world
-use Rattle.prt_world.specs.World.{Phase as Moment, LookerState, Step, World, durable, has_room, kept_versions, looker_state, offline, online, published_version, step}
-use Rattle.prt_world.specs.declared.event.Event.{Event}
-use Rattle.prt_world.specs.declared.event.Event.TheVariants as events
-use Rattle.prt_world.specs.declared.event.Fate.{Fate}
+use Rattle.prt_replay.specs.World as world
+use Rattle.prt_replay.specs.World.{Phase as Moment, LookerState, Step, World, durable, has_room, kept_versions, looker_state, offline, online, published_version, step}
+use Rattle.prt_replay.specs.declared.event.Event.{Event}
+use Rattle.prt_replay.specs.declared.event.Event.TheVariants as events
+use Rattle.prt_replay.specs.declared.event.Fate.{Fate}
 use Rattle.std.specs.Prelude.{slice_set}
 use Rattle.prt_laws.specs.Events.{AsksSome}
 

@@ -10,10 +10,10 @@ use Rattle.prt_grace.specs.declared.place.Place.{Place}
 use Rattle.prt_grace.specs.declared.place.PlaceState.{PlaceState}
 use Rattle.prt_grace.specs.declared.place.PlaceState.TheVariants as places
 use Rattle.prt_version.specs.State.{State}
-use Rattle.prt_world.specs.World as world
-use Rattle.prt_world.specs.World.{LookerState, Step, World, announced_by, kept_versions, looker_state, offline, online, published_version, step}
-use Rattle.prt_world.specs.declared.event.Event.TheVariants as events
-use Rattle.prt_world.specs.declared.outcome.Outcome.TheVariants as outcomes
+use Rattle.prt_replay.specs.World as world
+use Rattle.prt_replay.specs.World.{LookerState, Step, World, announced_by, kept_versions, looker_state, offline, online, published_version, step}
+use Rattle.prt_replay.specs.declared.event.Event.TheVariants as events
+use Rattle.prt_replay.specs.declared.outcome.Outcome.TheVariants as outcomes
 use Rattle.prt_laws.specs.Lookers.{EveryLookersEvent, IsAnnounce, IsJoin, IsOffline, IsOnline, IsPart, ShowsOnline, ShowsReclaimed, held_online, seat}
 use Rattle.prt_laws.specs.Registries.{IsRegistryOf, brought_online, taken_offline, told_number}
 use Rattle.prt_laws.specs.Publishers.{IsPublisherOf}

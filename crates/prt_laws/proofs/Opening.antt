@@ -18,19 +18,19 @@ use Rattle.prt_store.specs.Adopted.{Adopts}
 use Rattle.prt_store.specs.Stored.{Stores}
 use Rattle.std.specs.Prelude.{take}
 use Rattle.std.proofs.lemmas.List.{take-take}
-use Rattle.prt_world.specs.Durability.{state_after}
-use Rattle.prt_world.proofs.Phases.{Holds, version_kept}
+use Rattle.prt_replay.specs.Durability.{state_after}
+use Rattle.prt_replay.proofs.Phases.{Holds, version_kept}
 use Rattle.prt_laws.proofs.Steps.{holds_of, told_opened, Moves, moved, pending}
 use Rattle.prt_version.specs.Accepted.{changes_of}
 use Rattle.prt_version.specs.Change.{fold}
 use Rattle.prt_version.specs.State.{State, opening_state}
-use Rattle.prt_world.specs.World as world
-use Rattle.prt_world.specs.World.{Phase as Moment, Step, World, published_version, run_from, outcomes_from, start, step}
-use Rattle.prt_world.specs.declared.event.Event.{Event}
-use Rattle.prt_world.specs.declared.event.Event.TheVariants as events
-use Rattle.prt_world.specs.declared.event.Fate.TheVariants.{Kept, Lost}
-use Rattle.prt_world.specs.declared.outcome.Outcome.TheVariants as outcomes
-use Rattle.prt_world.proofs.KeptVersions.{kept_alone}
+use Rattle.prt_replay.specs.World as world
+use Rattle.prt_replay.specs.World.{Phase as Moment, Step, World, published_version, run_from, outcomes_from, start, step}
+use Rattle.prt_replay.specs.declared.event.Event.{Event}
+use Rattle.prt_replay.specs.declared.event.Event.TheVariants as events
+use Rattle.prt_replay.specs.declared.event.Fate.TheVariants.{Kept, Lost}
+use Rattle.prt_replay.specs.declared.outcome.Outcome.TheVariants as outcomes
+use Rattle.prt_replay.proofs.KeptVersions.{kept_alone}
 use Rattle.prt_laws.specs.Laws.{AdoptsStopped, BeginsAt, IsCutShort, OpensAgain}
 use Rattle.prt_laws.specs.Registries.{IsRegistryOf}
 use Rattle.prt_laws.proofs.Registering.{registers_opened, registers_started}
@@ -40,7 +40,7 @@ use Rattle.prt_store.specs.Next.{AreNext, put_all}
 use Rattle.prt_store.proofs.Stops.{left_by}
 use Rattle.prt_grace.specs.Registry.{new_registry}
 use Rattle.prt_store.proofs.Adoptions.{opening_stored}
-use Rattle.prt_world.specs.declared.event.Fate.{Fate}
+use Rattle.prt_replay.specs.declared.event.Fate.{Fate}
 use Rattle.sqlite.specs.Tree.{Trees}
 use Rattle.prt_laws.specs.Spots.{IsAt}
 use Rattle.prt_laws.specs.Events.{own, own_outcomes, stop_events, stop_outcomes}

@@ -6,10 +6,10 @@ use Rattle.std.proofs.lemmas.List.{get_or-set_other, length-set, append_assoc, l
 use Rattle.prt_published.specs.Line.{Line, Begins, line_state}
 use Rattle.prt_rule.specs.declared.packet.Packet.{Packet}
 use Rattle.prt_service.specs.Look.{Look}
-use Rattle.prt_world.specs.World as world
-use Rattle.prt_world.specs.World.{LookerState, Step, World, looker_state, offline, online, run_from, step}
-use Rattle.prt_world.specs.declared.event.Event.{Event}
-use Rattle.prt_world.specs.declared.event.Event.TheVariants as events
+use Rattle.prt_replay.specs.World as world
+use Rattle.prt_replay.specs.World.{LookerState, Step, World, looker_state, offline, online, run_from, step}
+use Rattle.prt_replay.specs.declared.event.Event.{Event}
+use Rattle.prt_replay.specs.declared.event.Event.TheVariants as events
 use Rattle.prt_laws.specs.Lookers.{seat}
 use Rattle.prt_laws.proofs.Looking.{runs, sits_there}
 use Rattle.prt_laws.proofs.Scripts.{event_seats}
@@ -22,10 +22,10 @@ use Rattle.prt_version.specs.Select.{select}
 use Rattle.prt_version.specs.State.{State, opening_state}
 use Rattle.prt_version.specs.declared.answer.Answer.{Answer}
 use Rattle.prt_version.specs.declared.change.Change.{Change}
-use Rattle.prt_world.specs.Durability.{state_after}
-use Rattle.prt_world.specs.declared.outcome.Outcome.TheVariants as outcomes
-use Rattle.prt_world.proofs.History.{IsServed}
-use Rattle.prt_world.proofs.Phases.{Holds, looker_served, version_kept}
+use Rattle.prt_replay.specs.Durability.{state_after}
+use Rattle.prt_replay.specs.declared.outcome.Outcome.TheVariants as outcomes
+use Rattle.prt_replay.proofs.History.{IsServed}
+use Rattle.prt_replay.proofs.Phases.{Holds, looker_served, version_kept}
 use Rattle.prt_laws.proofs.Steps.{holds_of, number_of, reached_run, shown_number}
 use Rattle.prt_laws.specs.Spots.{IsAt, IsReached, Spot}
 

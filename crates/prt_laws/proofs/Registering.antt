@@ -14,14 +14,14 @@ use Rattle.prt_grace.specs.declared.place.PlaceState.TheVariants as places
 use Rattle.prt_version.specs.State.{State, opening_state}
 use Rattle.prt_version.specs.Change.{fold}
 use Rattle.prt_command.specs.declared.request.Command.{Command}
-use Rattle.prt_world.specs.World as world
-use Rattle.prt_world.specs.World.{LookerState, Step, World, announced_by, has_room, looker_state, offline, online, published_version, start, step}
-use Rattle.prt_world.specs.declared.event.Event.{Event}
-use Rattle.prt_world.specs.declared.event.Event.TheVariants as events
-use Rattle.prt_world.proofs.History.{not_retired, stays}
-use Rattle.prt_world.proofs.KeptVersions.{kept_alone, kept_filtered, other_number, same_number}
-use Rattle.prt_world.proofs.Phases.{Holds, Phased, version_kept}
-use Rattle.prt_world.proofs.SideBySide.{all_pass, map_set_same, none_pass}
+use Rattle.prt_replay.specs.World as world
+use Rattle.prt_replay.specs.World.{LookerState, Step, World, announced_by, has_room, looker_state, offline, online, published_version, start, step}
+use Rattle.prt_replay.specs.declared.event.Event.{Event}
+use Rattle.prt_replay.specs.declared.event.Event.TheVariants as events
+use Rattle.prt_replay.proofs.History.{not_retired, stays}
+use Rattle.prt_replay.proofs.KeptVersions.{kept_alone, kept_filtered, other_number, same_number}
+use Rattle.prt_replay.proofs.Phases.{Holds, Phased, version_kept}
+use Rattle.prt_replay.proofs.SideBySide.{all_pass, map_set_same, none_pass}
 use Rattle.prt_laws.specs.Spots.{IsAt, IsReached, Spot}
 use Rattle.prt_laws.specs.Events.{is_lookers}
 use Rattle.prt_laws.specs.Registries.{IsRegistryOf, brought_online, registry_after, taken_offline, told_number}

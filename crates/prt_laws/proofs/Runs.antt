@@ -11,13 +11,13 @@ use Rattle.prt_publisher.specs.Standing.{Standing}
 use Rattle.prt_publisher.specs.declared.phase.Phase.{Phase}
 use Rattle.prt_publisher.specs.declared.phase.Phase.TheVariants.{Ready, Committed, Published, Closed}
 use Rattle.prt_version.specs.State.{State}
-use Rattle.prt_world.specs.Durability.{IsAnswered}
-use Rattle.prt_world.specs.declared.outcome.Outcome.TheVariants as outcomes
-use Rattle.prt_world.specs.World as world
-use Rattle.prt_world.specs.World.{Ack, Lookup, World, looker_state, run_from, start, step}
-use Rattle.prt_world.specs.declared.event.Event.{Event}
-use Rattle.prt_world.specs.declared.event.Event.TheVariants as events
-use Rattle.prt_world.specs.declared.event.Fate.TheVariants.{Lost}
+use Rattle.prt_replay.specs.Durability.{IsAnswered}
+use Rattle.prt_replay.specs.declared.outcome.Outcome.TheVariants as outcomes
+use Rattle.prt_replay.specs.World as world
+use Rattle.prt_replay.specs.World.{Ack, Lookup, World, looker_state, run_from, start, step}
+use Rattle.prt_replay.specs.declared.event.Event.{Event}
+use Rattle.prt_replay.specs.declared.event.Event.TheVariants as events
+use Rattle.prt_replay.specs.declared.event.Fate.TheVariants.{Lost}
 use Rattle.prt_published.specs.Line.{grown_by, line_state}
 use Rattle.prt_grace.specs.Registry.{RegistryState, new_registry}
 use Rattle.prt_grace.specs.declared.place.PlaceState.TheVariants.{Free}

@@ -27,15 +27,15 @@ use Rattle.prt_replies.specs.declared.reply.Reply.TheVariants.{Answered, Refused
 use Rattle.prt_version.specs.Change.{refusal}
 use Rattle.prt_version.specs.State.{State}
 use Rattle.prt_version.specs.declared.answer.Answer.{Answer}
-use Rattle.prt_world.specs.World as world
-use Rattle.prt_world.specs.World.{Phase as Moment, Ack, LookerState, Lookup, Step, World, announced_by, has_room, looker_state, offline, online, outcomes_from, published_version, run_from, step}
-use Rattle.prt_world.specs.declared.event.Event.{Event}
-use Rattle.prt_world.specs.declared.event.Event.TheVariants as events
-use Rattle.prt_world.specs.declared.event.Fate.TheVariants.{Kept, Lost}
-use Rattle.prt_world.specs.declared.outcome.Outcome.{Outcome}
-use Rattle.prt_world.specs.declared.outcome.Outcome.TheVariants as outcomes
-use Rattle.prt_world.proofs.History.{stays}
-use Rattle.prt_world.proofs.KeptVersions.{each_replicate}
+use Rattle.prt_replay.specs.World as world
+use Rattle.prt_replay.specs.World.{Phase as Moment, Ack, LookerState, Lookup, Step, World, announced_by, has_room, looker_state, offline, online, outcomes_from, published_version, run_from, step}
+use Rattle.prt_replay.specs.declared.event.Event.{Event}
+use Rattle.prt_replay.specs.declared.event.Event.TheVariants as events
+use Rattle.prt_replay.specs.declared.event.Fate.TheVariants.{Kept, Lost}
+use Rattle.prt_replay.specs.declared.outcome.Outcome.{Outcome}
+use Rattle.prt_replay.specs.declared.outcome.Outcome.TheVariants as outcomes
+use Rattle.prt_replay.proofs.History.{stays}
+use Rattle.prt_replay.proofs.KeptVersions.{each_replicate}
 use Rattle.prt_laws.specs.Desks.{AllTell, AnswersOrNot, AreOffline, DeskHasRoom, HasRoomFor, IsDeskOf, Lines, ReopenedDesk, ScriptIsRun, ShowsAnswer, ShowsReply, ShowsTurn, Tells, Weaves, accepted_in, desk_events, events_by, joined, list_events_by, lookup_events, lookup_outcomes, moment_between, reply_acks, request_acks, submitted_events}
 use Rattle.prt_laws.specs.Events.{AsksSome, asked, commit_events, fail_events, is_lookers, own, publish_events}
 use Rattle.prt_laws.specs.Spots.{HasRoom, IsAt}

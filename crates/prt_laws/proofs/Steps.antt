@@ -11,16 +11,16 @@ use Rattle.std.proofs.lemmas.List.{append-nil, append_assoc, take-append-le, tak
 use Rattle.prt_version.specs.Accepted.{IsAccepted, refusal_all}
 use Rattle.prt_version.specs.Change.{fold}
 use Rattle.prt_version.specs.State.{State, opening_state}
-use Rattle.prt_world.specs.Durability.{state_after}
-use Rattle.prt_world.specs.World as world
-use Rattle.prt_world.specs.World.{Phase as Moment, Step, World, has_room, published_version, run_from, start, step}
-use Rattle.prt_world.specs.declared.event.Event.{Event}
-use Rattle.prt_world.specs.declared.event.Event.TheVariants as events
-use Rattle.prt_world.specs.declared.event.Fate.TheVariants.{Kept, Lost}
-use Rattle.prt_world.specs.declared.outcome.Outcome.{Outcome}
-use Rattle.prt_world.specs.declared.outcome.Outcome.TheVariants as outcomes
-use Rattle.prt_world.proofs.KeptVersions.{kept_count}
-use Rattle.prt_world.proofs.Phases.{Holds, Phased, every_run_holds, settled_version, shown_version}
+use Rattle.prt_replay.specs.Durability.{state_after}
+use Rattle.prt_replay.specs.World as world
+use Rattle.prt_replay.specs.World.{Phase as Moment, Step, World, has_room, published_version, run_from, start, step}
+use Rattle.prt_replay.specs.declared.event.Event.{Event}
+use Rattle.prt_replay.specs.declared.event.Event.TheVariants as events
+use Rattle.prt_replay.specs.declared.event.Fate.TheVariants.{Kept, Lost}
+use Rattle.prt_replay.specs.declared.outcome.Outcome.{Outcome}
+use Rattle.prt_replay.specs.declared.outcome.Outcome.TheVariants as outcomes
+use Rattle.prt_replay.proofs.KeptVersions.{kept_count}
+use Rattle.prt_replay.proofs.Phases.{Holds, Phased, every_run_holds, settled_version, shown_version}
 use Rattle.prt_laws.specs.Events.{AsksSome, asked}
 use Rattle.prt_laws.specs.Spots.{HasRoom, IsAt, IsReached, IsTold, Spot}
 

@@ -16,10 +16,10 @@ use Rattle.prt_version.proofs.Folds.{count_fold}
 use Rattle.prt_version.specs.Accepted.{IsAccepted, refusal_all}
 use Rattle.prt_version.specs.Change.{fold}
 use Rattle.prt_version.specs.State.{State}
-use Rattle.prt_world.specs.World.{World, has_room, step}
-use Rattle.prt_world.specs.declared.event.Event.{Event}
-use Rattle.prt_world.specs.declared.event.Event.TheVariants as events
-use Rattle.prt_world.specs.declared.outcome.Outcome.TheVariants as outcomes
+use Rattle.prt_replay.specs.World.{World, has_room, step}
+use Rattle.prt_replay.specs.declared.event.Event.{Event}
+use Rattle.prt_replay.specs.declared.event.Event.TheVariants as events
+use Rattle.prt_replay.specs.declared.outcome.Outcome.TheVariants as outcomes
 use Rattle.prt_laws.specs.Events.{AsksSome, asked, commit_events, commit_outcomes, fail_events, fail_outcomes, note_events, note_outcomes, publish_events, publish_outcomes, submit_events, submit_outcomes}
 use Rattle.prt_laws.specs.Laws.{ChecksNot, PlansNot, Prepares, PreparesNot, Publishes, Refuses, SubmitFails, SubmitUnpublished, Submits, SubmitsNot, Plans, Admits, DeclinesBy}
 use Rattle.prt_laws.specs.Publishers.{Leads, IsPublisherOf}

@@ -9,11 +9,11 @@ use Rattle.prt_grace.specs.Registry.{RegistryState}
 use Rattle.prt_version.specs.Accepted.{refusal_all}
 use Rattle.prt_version.specs.Change.{fold}
 use Rattle.prt_version.specs.State.{State}
-use Rattle.prt_world.specs.World as world
-use Rattle.prt_world.specs.World.{Phase as Moment, Step, World, has_room, published_version, run_from, start, step}
-use Rattle.prt_world.specs.declared.event.Event.{Event}
-use Rattle.prt_world.specs.declared.event.Event.TheVariants as events
-use Rattle.prt_world.specs.declared.event.Fate.{Fate}
+use Rattle.prt_replay.specs.World as world
+use Rattle.prt_replay.specs.World.{Phase as Moment, Step, World, has_room, published_version, run_from, start, step}
+use Rattle.prt_replay.specs.declared.event.Event.{Event}
+use Rattle.prt_replay.specs.declared.event.Event.TheVariants as events
+use Rattle.prt_replay.specs.declared.event.Fate.{Fate}
 use Rattle.prt_laws.specs.Events.{AsksSome, commit_events, fail_events, is_going, is_lookers, own}
 use Rattle.prt_laws.specs.Registries.{EveryEventKeepsRegistry, RoomIsRoom, IsRegistryOf, noted_at, registry_after, registry_through}
 use Rattle.prt_laws.specs.Spots.{HasRoom, IsAt, IsReached}

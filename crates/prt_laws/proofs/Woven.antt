@@ -5,11 +5,11 @@ use Rattle.std.proofs.lemmas.List.{append-nil, append_assoc}
 use Rattle.prt_refusals.specs.declared.refusal.StoreCall.{StoreCall}
 use Rattle.prt_refusals.specs.declared.refusal.StoreCall.TheVariants as calls
 use Rattle.prt_command.specs.declared.request.Command.{Command}
-use Rattle.prt_world.specs.declared.event.Event.{Event}
-use Rattle.prt_world.specs.declared.event.Event.TheVariants as events
+use Rattle.prt_replay.specs.declared.event.Event.{Event}
+use Rattle.prt_replay.specs.declared.event.Event.TheVariants as events
 use Rattle.prt_laws.specs.Events.{commit_events, events_before, write_events, AsksSome, is_lookers, own, own_outcomes}
-use Rattle.prt_world.specs.World.{World, run_from, step}
-use Rattle.prt_world.specs.declared.outcome.Outcome.{Outcome}
+use Rattle.prt_replay.specs.World.{World, run_from, step}
+use Rattle.prt_replay.specs.declared.outcome.Outcome.{Outcome}
 use Rattle.prt_laws.specs.Spots.{IsAt, Spot}
 use Rattle.prt_laws.proofs.Between.{stays_there}
 use Rattle.prt_laws.proofs.Steps.{Moves}

@@ -15,7 +15,8 @@ use Rattle.prt_listing.specs.AnswerText.{answer_text}
 use Rattle.prt_listing.specs.QueryText.{query_text}
 use Rattle.prt_rule.specs.declared.packet.Packet.{Packet}
 use Rattle.prt_session.specs.Atomic.{atomic_output, collected, list_replies}
-use Rattle.prt_session.specs.Desk.{Befalls, DeskState, Mishap, command_turn, commands_turn, commit_kept, no_memory, no_room, publication_fails, request_turn, settled, store_fails}
+use Rattle.prt_session.specs.Desk.{Befalls, DeskState, Mishap, command_turn, commands_turn, commit_kept, no_memory, no_room, publication_fails}
+use Rattle.prt_session.specs.Desk.{request_turn, settled, store_fails}
 use Rattle.prt_replies.specs.Reply.{is_refused}
 use Rattle.prt_replies.specs.Input.{Input}
 use Rattle.prt_session.specs.Session.{Exchange, Path, replies}
@@ -26,14 +27,14 @@ use Rattle.prt_version.specs.Accepted.{refusal_all}
 use Rattle.prt_version.specs.Change.{refusal}
 use Rattle.prt_version.specs.State.{State, opening_state}
 use Rattle.prt_version.specs.declared.answer.Answer.{Answer}
-use Rattle.prt_world.specs.Durability.{IsAnswered}
-use Rattle.prt_world.specs.World as world
-use Rattle.prt_world.specs.World.{Ack, Lookup, Phase as Moment, World, has_room, offline, outcomes_from, published_version, run_from, step}
-use Rattle.prt_world.specs.declared.event.Event.{Event}
-use Rattle.prt_world.specs.declared.event.Event.TheVariants as events
-use Rattle.prt_world.specs.declared.event.Fate.TheVariants.{Kept, Lost}
-use Rattle.prt_world.specs.declared.outcome.Outcome.{Outcome}
-use Rattle.prt_world.specs.declared.outcome.Outcome.TheVariants as outcomes
+use Rattle.prt_replay.specs.Durability.{IsAnswered}
+use Rattle.prt_replay.specs.World as world
+use Rattle.prt_replay.specs.World.{Ack, Lookup, Phase as Moment, World, has_room, offline, outcomes_from, published_version, run_from, step}
+use Rattle.prt_replay.specs.declared.event.Event.{Event}
+use Rattle.prt_replay.specs.declared.event.Event.TheVariants as events
+use Rattle.prt_replay.specs.declared.event.Fate.TheVariants.{Kept, Lost}
+use Rattle.prt_replay.specs.declared.outcome.Outcome.{Outcome}
+use Rattle.prt_replay.specs.declared.outcome.Outcome.TheVariants as outcomes
 use Rattle.prt_laws.specs.Events.{acks_to, asked, fail_events, own, own_outcomes, submit_events, unpublished_events}
 use Rattle.prt_laws.specs.Runs.{HoldsAll}
 use Rattle.prt_laws.specs.Spots.{IsReached}
@@ -119,7 +120,8 @@ reply_acks command reply = []
 -- Each turn of a command is the world's events: they show its reply, lead to a world of the desk that it leaves, and
 -- acknowledge the command if the reply does.
 abbrev pub TurnIsSteps : Type 0
-TurnIsSteps = (desk : DeskState) (w : World) (command : Command) (mishap : Option Mishap) → IsDeskOf desk w → (desk.closed ≡ false → refusal desk.published command ≡ None → HasRoomFor w mishap)
+TurnIsSteps = (desk : DeskState) (w : World) (command : Command) (mishap : Option Mishap) → IsDeskOf desk w →
+    (desk.closed ≡ false → refusal desk.published command ≡ None → HasRoomFor w mishap)
     → (all : List Event) → Weaves (desk_events desk command mishap) all
     → (shown_reply (own_outcomes w all) ≡ (command_turn desk command mishap).reply) × IsDeskOf (command_turn desk command mishap).desk (run_from w all)
     × ((run_from w all).acks ≡ w.acks ++ reply_acks command (command_turn desk command mishap).reply)
@@ -156,7 +158,8 @@ accepted_in {M} (x ∷ xs) = request_acks (reading x.line) x.reply ++ accepted_i
 -- The events of a command, by what befalls it, show its reply. Only a refusal as busy is none, for lack of a looker: then nothing is done.
 abbrev pub ShowsTurn : World → List Event → Command → Option Mishap → Reply → Type 0
 ShowsTurn w part command mishap reply =
-    ((closed : Bool) × (w.phase ≡ moment_between closed) × (own part ≡ events_by command closed (refusal (published_version w) command) mishap) × (shown_reply (own_outcomes w part) ≡ reply))
+    ((closed : Bool) × (w.phase ≡ moment_between closed)
+    × (own part ≡ events_by command closed (refusal (published_version w) command) mishap) × (shown_reply (own_outcomes w part) ≡ reply))
     ⊎ ((mishap ≡ Some no_room) × (reply ≡ Refused Busy) × (part ≡ []))
 
 -- one looker's lookup of a packet
@@ -169,7 +172,9 @@ lookup_outcomes w answer = outcomes.Online 0 w.noted ∷ outcomes.Fetched 0 w.pu
 -- `route get` is a lookup, which shows the answer that the reply reports. A listing is one of the published version, and no
 -- event.
 abbrev pub ShowsAnswer : World → List Event → Query → Reply → Type 0
-ShowsAnswer w part (Get packet) reply = (part ≡ lookup_events packet) × (answer : Answer) × (outcomes_from w part ≡ lookup_outcomes w answer) × (reply ≡ Answered (answer_text answer ++ codes "\n"))
+ShowsAnswer w part (Get packet) reply =
+    (part ≡ lookup_events packet) × (answer : Answer) × (outcomes_from w part ≡ lookup_outcomes w answer)
+    × (reply ≡ Answered (answer_text answer ++ codes "\n"))
 ShowsAnswer w part query reply = (part ≡ []) × (reply ≡ Answered (query_text (published_version w) query))
 
 -- a query that gets no memory does nothing
@@ -198,7 +203,8 @@ joined (part ∷ parts) = part ++ joined parts
 abbrev pub Exchanges : DeskState → List (Exchange Mishap) → DeskState → Type 0
 Exchanges before xs after = Path request_turn (Befalls (λ mishap. ⊤)) before xs after
 
--- The lines of a script are lists of events which show their replies. No looker is online between them. They lead to a world of the desk after them, and acknowledge what the replies do.
+-- The lines of a script are lists of events which show their replies. No looker is online between them. They lead to a world of
+-- the desk after them, and acknowledge what the replies do.
 abbrev pub ScriptIsRun : Type 0
 ScriptIsRun = (xs : List (Exchange Mishap)) (before after : DeskState) (w : World) → IsDeskOf before w → AreOffline w → Exchanges before xs after
     → (parts : List (List Event)) × Lines w xs parts
@@ -209,14 +215,17 @@ ScriptIsRun = (xs : List (Exchange Mishap)) (before after : DeskState) (w : Worl
 -- The events of commands together, by what befalls them, show how they end. Only a refusal as busy is none, for lack of a looker: then nothing is done.
 abbrev pub ShowsList : World → List Event → List Command → Option Mishap → Result ℕ Refusal → Type 0
 ShowsList w part commands mishap result =
-    ((closed : Bool) × (w.phase ≡ moment_between closed) × (own part ≡ list_events_by commands closed (refusal_all (published_version w) commands) mishap) × (shown_result (own_outcomes w part) ≡ result))
+    ((closed : Bool) × (w.phase ≡ moment_between closed)
+    × (own part ≡ list_events_by commands closed (refusal_all (published_version w) commands) mishap)
+    × (shown_result (own_outcomes w part) ≡ result))
     ⊎ ((mishap ≡ Some no_room) × (result ≡ Err Busy) × (part ≡ []))
 
 -- A file whose reading was refused does nothing, and neither does one without a command.
 abbrev pub ShowsFile : DeskState → World → List Event → Option Reply → List Command → Option Mishap → List Reply → Type 0
 ShowsFile desk w part (Some refused) commands mishap told = (part ≡ []) × (told ≡ refused ∷ [])
 ShowsFile desk w part None [] mishap told = (part ≡ []) × (told ≡ [])
-ShowsFile desk w part None (command ∷ commands) mishap told = (result : Result ℕ Refusal) × ShowsList w part (command ∷ commands) mishap result × (told ≡ list_replies desk (command ∷ commands) result)
+ShowsFile desk w part None (command ∷ commands) mishap told =
+    (result : Result ℕ Refusal) × ShowsList w part (command ∷ commands) mishap result × (told ≡ list_replies desk (command ∷ commands) result)
 
 -- the commands that the replies acknowledge, with the numbers that they report
 abbrev pub replies_acks : List Command → List Reply → List Ack
@@ -231,10 +240,12 @@ reading_refused input mishaps = find is_refused (replies (collected input mishap
 abbrev pub read_commands : Input → List (Option Mishap) → List Command
 read_commands input mishaps = (collected input mishaps).desk
 
--- An atomic file is a list of events too, which shows its replies: that of its commands together, or none. It leads to a world of the desk after the file, and acknowledges what the replies do.
+-- An atomic file is a list of events too, which shows its replies: that of its commands together, or none. It leads to a world of
+-- the desk after the file, and acknowledges what the replies do.
 abbrev pub FileIsRun : Type 0
 FileIsRun = (desk : DeskState) (w : World) (input : Input) (mishaps : List (Option Mishap)) (mishap : Option Mishap) → IsDeskOf desk w → AreOffline w
-    → (part : List Event) × ShowsFile desk w part (reading_refused input mishaps) (read_commands input mishaps) mishap (atomic_output desk input mishaps mishap).replies
+    → (part : List Event) × ShowsFile desk w part (reading_refused input mishaps) (read_commands input mishaps) mishap
+    (atomic_output desk input mishaps mishap).replies
     × IsDeskOf (atomic_output desk input mishaps mishap).desk (run_from w part) × AreOffline (run_from w part)
     × ((run_from w part).acks ≡ w.acks ++ replies_acks (read_commands input mishaps) (atomic_output desk input mishaps mishap).replies)
 
@@ -246,7 +257,9 @@ DeskHasRoom = (desk : DeskState) (w : World) → IsDeskOf desk w → AreOffline 
 
 -- A desk whose stored state is opened again is a world that was stopped and reopened.
 abbrev pub ReopenedDesk : Type 0
-ReopenedDesk = (desk : DeskState) (w : World) → IsDeskOf desk w → IsDeskOf (settled desk.stored) (run_from w (events.Stop Lost ∷ events.Reopen ∷ [])) × AreOffline (run_from w (events.Stop Lost ∷ events.Reopen ∷ []))
+ReopenedDesk = (desk : DeskState) (w : World) → IsDeskOf desk w →
+    IsDeskOf (settled desk.stored) (run_from w (events.Stop Lost ∷ events.Reopen ∷ []))
+    × AreOffline (run_from w (events.Stop Lost ∷ events.Reopen ∷ []))
     × ((run_from w (events.Stop Lost ∷ events.Reopen ∷ [])).acks ≡ w.acks)
 
 -- In each world of a desk, what is stored holds every command that was acknowledged.
@@ -262,7 +275,8 @@ pub data Work : Type 0 where
 
 abbrev pub Does : DeskState → Work → DeskState → Type 0
 Does before (script xs) after = Exchanges before xs after
-Does before (file input mishaps mishap told) after = (told ≡ (atomic_output before input mishaps mishap).replies) × (after ≡ (atomic_output before input mishaps mishap).desk)
+Does before (file input mishaps mishap told) after =
+    (told ≡ (atomic_output before input mishaps mishap).replies) × (after ≡ (atomic_output before input mishaps mishap).desk)
 
 -- Each begins at an open desk on what the one before left stored.
 abbrev pub Sessions : State → List Work → State → Type 0
@@ -280,7 +294,8 @@ accepted_by (work ∷ works) = work_acks work ++ accepted_by works
 
 -- if the reply answers a `route get`, this holds of the packet and the answer that it reports
 abbrev pub Tells : (Lookup → Type 0) → Result (Option Request) Refusal → Reply → Type 0
-Tells P (Ok (Some (requests.Query (Get packet)))) (Answered text) = (answer : Answer) × (text ≡ answer_text answer ++ codes "\n") × P (record { packet = packet; answer = answer })
+Tells P (Ok (Some (requests.Query (Get packet)))) (Answered text) =
+    (answer : Answer) × (text ≡ answer_text answer ++ codes "\n") × P (record { packet = packet; answer = answer })
 Tells P request reply = Unit {0}
 
 abbrev pub AllTell : (Lookup → Type 0) → List (Exchange Mishap) → Type 0
@@ -291,7 +306,9 @@ abbrev pub WorkTells : (Lookup → Type 0) → Work → Type 0
 WorkTells P (script xs) = AllTell P xs
 WorkTells P (file input mishaps mishap told) = Unit {0}
 
--- What any number of scripts and atomic files on a new database leave is on disk in a world that acknowledged what their replies do. It holds all of that, and the version by which each `route get` was answered.
+-- What any number of scripts and atomic files on a new database leave is on disk in a world that acknowledged what their replies
+-- do. It holds all of that, and the version by which each `route get` was answered.
 abbrev pub SessionsHold : Type 0
-SessionsHold = (works : List Work) (left : State) → Sessions opening_state works left → (v : World) × IsReached v × (v.disk ≡ left) × (v.acks ≡ accepted_by works)
+SessionsHold = (works : List Work) (left : State) → Sessions opening_state works left →
+    (v : World) × IsReached v × (v.disk ≡ left) × (v.acks ≡ accepted_by works)
     × HoldsAll v (accepted_by works) v.answers left × Each (WorkTells (IsAnswered v)) works

@@ -5,13 +5,13 @@ use Rattle.prt_refusals.specs.declared.refusal.StoreCall.{StoreCall}
 use Rattle.prt_refusals.specs.declared.refusal.StoreCall.TheVariants as calls
 use Rattle.prt_command.specs.declared.request.Command.{Command}
 use Rattle.prt_published.specs.Line.{Line, line_state}
-use Rattle.prt_world.specs.World.{Ack, World, step}
-use Rattle.prt_world.specs.declared.event.Event.{Event}
-use Rattle.prt_world.specs.declared.event.Event.TheVariants as events
-use Rattle.prt_world.specs.declared.event.Fate.{Fate}
-use Rattle.prt_world.specs.declared.event.Fate.TheVariants.{Lost}
-use Rattle.prt_world.specs.declared.outcome.Outcome.{Outcome}
-use Rattle.prt_world.specs.declared.outcome.Outcome.TheVariants as outcomes
+use Rattle.prt_replay.specs.World.{Ack, World, step}
+use Rattle.prt_replay.specs.declared.event.Event.{Event}
+use Rattle.prt_replay.specs.declared.event.Event.TheVariants as events
+use Rattle.prt_replay.specs.declared.event.Fate.{Fate}
+use Rattle.prt_replay.specs.declared.event.Fate.TheVariants.{Lost}
+use Rattle.prt_replay.specs.declared.outcome.Outcome.{Outcome}
+use Rattle.prt_replay.specs.declared.outcome.Outcome.TheVariants as outcomes
 
 -- ---- the events of lookers, and the publisher's own
 
@@ -53,7 +53,8 @@ own list = filter (λ event. not (is_lookers event)) list
 -- and what they show
 abbrev pub own_outcomes : World → List Event → List Outcome
 own_outcomes w [] = []
-own_outcomes w (event ∷ list) = if is_lookers event then own_outcomes (step w event).world list else (step w event).outcome ∷ own_outcomes (step w event).world list
+own_outcomes w (event ∷ list) =
+    if is_lookers event then own_outcomes (step w event).world list else (step w event).outcome ∷ own_outcomes (step w event).world list
 
 -- ---- the events of each call, and what they show
 

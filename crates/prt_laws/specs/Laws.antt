@@ -16,13 +16,15 @@ use Rattle.prt_store.specs.Exits.{IsKnown, MayLeave, Spells}
 use Rattle.prt_store.specs.Stops.{AllStoppedIn}
 use Rattle.prt_version.specs.Accepted.{IsAccepted, changes_of}
 use Rattle.prt_version.specs.State.{State}
-use Rattle.prt_world.specs.World.{World, has_room, outcomes_from, run_from, step}
-use Rattle.prt_world.specs.declared.event.Event.{Event}
-use Rattle.prt_world.specs.declared.event.Event.TheVariants as events
-use Rattle.prt_world.specs.declared.event.Fate.{Fate}
-use Rattle.prt_world.specs.declared.event.Fate.TheVariants.{Lost}
-use Rattle.prt_world.specs.declared.outcome.Outcome.TheVariants as outcomes
-use Rattle.prt_laws.specs.Events.{AsksSome, asked, commit_events, commit_outcomes, fail_events, fail_outcomes, note_events, note_outcomes, own, own_outcomes, publish_events, publish_outcomes, reclaim_events, stop_events, stop_outcomes, submit_events, submit_outcomes, unpublished_events, unpublished_outcomes}
+use Rattle.prt_replay.specs.World.{World, has_room, outcomes_from, run_from, step}
+use Rattle.prt_replay.specs.declared.event.Event.{Event}
+use Rattle.prt_replay.specs.declared.event.Event.TheVariants as events
+use Rattle.prt_replay.specs.declared.event.Fate.{Fate}
+use Rattle.prt_replay.specs.declared.event.Fate.TheVariants.{Lost}
+use Rattle.prt_replay.specs.declared.outcome.Outcome.TheVariants as outcomes
+use Rattle.prt_laws.specs.Events.{AsksSome, asked, commit_events, commit_outcomes, fail_events, fail_outcomes, note_events, note_outcomes, own}
+use Rattle.prt_laws.specs.Events.{own_outcomes, publish_events, publish_outcomes, reclaim_events, stop_events, stop_outcomes, submit_events}
+use Rattle.prt_laws.specs.Events.{submit_outcomes, unpublished_events, unpublished_outcomes}
 use Rattle.prt_laws.specs.Registries.{registry_after}
 use Rattle.prt_laws.specs.Publishers.{Leads, LeadsTo, AreBothOf, IsPublisherOf}
 
@@ -57,9 +59,13 @@ module _ {S : Type 0} (g : Ghosts S) (old new : Standing (Held S)) where
   abbrev pub PlansNot : Refusal → Type 0
   PlansNot why = (why ≡ NoMemory) × (new.phase ≡ Ready) × ((w : World) → IsPublisherOf g old w → Leads g w [] [] new)
 
-  -- Commands are not checked, and the publisher is as it was. They are several, and memory was refused, of which the world has no event; or the world refuses each event that submits them, with room or without.
+  -- Commands are not checked, and the publisher is as it was. They are several, and memory was refused, of which the world has no
+  -- event; or the world refuses each event that submits them, with room or without.
   abbrev pub ChecksNot : List Command → Refusal → Type 0
-  ChecksNot commands why = (new ≡ old) × (((why ≡ NoMemory) × (2 ≤ length commands)) ⊎ ((event : Event) → commands ≡ asked event → (w : World) → IsPublisherOf g old w → ((step w event).outcome ≡ outcomes.Refused why) × IsPublisherOf g new (step w event).world))
+  ChecksNot commands why = (new ≡ old)
+      × (((why ≡ NoMemory) × (2 ≤ length commands))
+      ⊎ ((event : Event) → commands ≡ asked event → (w : World) → IsPublisherOf g old w →
+      ((step w event).outcome ≡ outcomes.Refused why) × IsPublisherOf g new (step w event).world))
 
   -- the calls that store the commands under way
   abbrev pub Commits : Type 0
@@ -70,23 +76,28 @@ module _ {S : Type 0} (g : Ghosts S) (old new : Standing (Held S)) where
 
   -- closed; each state that a crash may leave is that of a world whose event of the failed call has the fate that fits
   abbrev pub FailsToCommit : Refusal → Type 0
-  FailsToCommit why = (new.phase ≡ Closed) × (new.commands ≡ []) × (call : StoreCall) × (why ≡ StoreFailed call) × (IsKnown g new.ours_first new.tables → (left : State) → MayLeave g new.tables left → (fate : Fate) × FailsBy call fate left)
+  FailsToCommit why = (new.phase ≡ Closed) × (new.commands ≡ []) × (call : StoreCall) × (why ≡ StoreFailed call)
+      × (IsKnown g new.ours_first new.tables → (left : State) → MayLeave g new.tables left → (fate : Fate) × FailsBy call fate left)
 
   abbrev pub Shows : Type 0
-  Shows = (new.phase ≡ Published) × ((w : World) → IsPublisherOf g old w → Leads g w (events.Publish ∷ []) (outcomes.Published (line_state new.line).count ∷ []) new)
+  Shows = (new.phase ≡ Published)
+      × ((w : World) → IsPublisherOf g old w → Leads g w (events.Publish ∷ []) (outcomes.Published (line_state new.line).count ∷ []) new)
 
   abbrev pub PublishesNot : Refusal → Type 0
-  PublishesNot why = (why ≡ NotPublished) × (new ≡ record old { phase = Closed }) × ((w : World) → IsPublisherOf g old w → Leads g w (events.PublishFail ∷ []) (outcomes.Refused why ∷ []) new)
+  PublishesNot why = (why ≡ NotPublished) × (new ≡ record old { phase = Closed })
+      × ((w : World) → IsPublisherOf g old w → Leads g w (events.PublishFail ∷ []) (outcomes.Refused why ∷ []) new)
 
   -- under the registry's lock it notes the version there; the lock is released, and the commands acknowledged
   abbrev pub Notes : RegistryState → RegistryState → Line → Type 0
-  Notes before r told = (new.phase ≡ Ready) × ((w : World) → IsPublisherOf g old w → (r ≡ registry_after before w events.Note) × Leads g w note_events (note_outcomes told) new)
+  Notes before r told = (new.phase ≡ Ready)
+      × ((w : World) → IsPublisherOf g old w → (r ≡ registry_after before w events.Note) × Leads g w note_events (note_outcomes told) new)
 
   -- ---- the calls with a domain: what they see under its lock is said of the world
 
   -- if the world has room
   abbrev pub Prepares : Event → Type 0
-  Prepares event = (new.phase ≡ Prepared) × ((w : World) → IsPublisherOf g old w → has_room w ≡ true → Leads g w (event ∷ []) (outcomes.Prepared (last_number event) ∷ []) new)
+  Prepares event = (new.phase ≡ Prepared)
+      × ((w : World) → IsPublisherOf g old w → has_room w ≡ true → Leads g w (event ∷ []) (outcomes.Prepared (last_number event) ∷ []) new)
 
   -- the world refuses what the event submits: for want of room if it has none; the publisher is as it was
   abbrev pub Refuses : Event → Refusal → Type 0
@@ -101,18 +112,23 @@ module _ {S : Type 0} (g : Ghosts S) (old new : Standing (Held S)) where
 
   -- if the world has room, all events of what this one submits
   abbrev pub Submits : Event → Line → Type 0
-  Submits event told = (new.phase ≡ Ready) × ((w : World) → IsPublisherOf g old w → has_room w ≡ true → Leads g w (submit_events event) (submit_outcomes (asked event) (line_state told).count) new)
+  Submits event told = (new.phase ≡ Ready)
+      × ((w : World) → IsPublisherOf g old w → has_room w ≡ true →
+      Leads g w (submit_events event) (submit_outcomes (asked event) (line_state told).count) new)
 
   abbrev pub SubmitFailsBy : Event → StoreCall → Fate → State → Type 0
   SubmitFailsBy event call fate left = (w : World) → IsPublisherOf g old w → has_room w ≡ true →
       LeadsTo g w (event ∷ fail_events (asked event) call fate) (outcomes.Prepared (last_number event) ∷ fail_outcomes (asked event) call) new left
 
   abbrev pub SubmitFails : Event → Refusal → Type 0
-  SubmitFails event why = (new.phase ≡ Closed) × (new.commands ≡ []) × (call : StoreCall) × (why ≡ StoreFailed call) × (IsKnown g new.ours_first new.tables → (left : State) → MayLeave g new.tables left → (fate : Fate) × SubmitFailsBy event call fate left)
+  SubmitFails event why = (new.phase ≡ Closed) × (new.commands ≡ []) × (call : StoreCall) × (why ≡ StoreFailed call)
+      × (IsKnown g new.ours_first new.tables → (left : State) → MayLeave g new.tables left → (fate : Fate) × SubmitFailsBy event call fate left)
 
   -- stored, and its publication is refused
   abbrev pub SubmitUnpublished : Event → Refusal → Type 0
-  SubmitUnpublished event why = (why ≡ NotPublished) × (new.phase ≡ Closed) × (new.commands ≡ asked event) × ((w : World) → IsPublisherOf g old w → has_room w ≡ true → Leads g w (unpublished_events event) (unpublished_outcomes (asked event) (last_number event)) new)
+  SubmitUnpublished event why = (why ≡ NotPublished) × (new.phase ≡ Closed) × (new.commands ≡ asked event)
+      × ((w : World) → IsPublisherOf g old w → has_room w ≡ true →
+      Leads g w (unpublished_events event) (unpublished_outcomes (asked event) (last_number event)) new)
 
   abbrev pub SubmitsNot : Event → Refusal → Type 0
   SubmitsNot event why = PreparesNot event why ⊎ (SubmitFails event why ⊎ SubmitUnpublished event why)
@@ -137,7 +153,9 @@ module _ {S : Type 0} (g : Ghosts S) where
   -- stopped within this store call, whatever lookers did before it, and opened again
   abbrev pub StopsBy : Standing (Held S) → Standing (Held S) → StoreCall → Fate → Type 0
   StopsBy old new call fate = (new.phase ≡ Ready) × ((w : World) → IsPublisherOf g old w → (all : List Event) → own all ≡ stop_events old.commands call fate →
-      (own_outcomes w all ≡ stop_outcomes old.commands call) × ((step (run_from w all) events.Reopen).outcome ≡ outcomes.Reopened (line_state new.line).count) × BeginsAt new (step (run_from w all) events.Reopen).world)
+      (own_outcomes w all ≡ stop_outcomes old.commands call)
+      × ((step (run_from w all) events.Reopen).outcome ≡ outcomes.Reopened (line_state new.line).count)
+      × BeginsAt new (step (run_from w all) events.Reopen).world)
 
   -- The commit of prepared commands was stopped in this store call, which left this connection.
   pub record IsCutShort (old : Standing (Held S)) (call : StoreCall) (now : Held S) : Type 0 where

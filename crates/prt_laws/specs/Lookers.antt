@@ -5,10 +5,10 @@ use Rattle.sqlite.specs.Store.{Ghosts}
 use Rattle.prt_grace.specs.Registry.{RegistryState}
 use Rattle.prt_grace.specs.declared.place.Place.{Place}
 use Rattle.prt_publisher.specs.Standing.{Standing}
-use Rattle.prt_world.specs.World.{LookerState, World, is_stopped, looker_state, offline, online, step}
-use Rattle.prt_world.specs.declared.event.Event.{Event}
-use Rattle.prt_world.specs.declared.event.Event.TheVariants as events
-use Rattle.prt_world.specs.declared.outcome.Outcome.TheVariants as outcomes
+use Rattle.prt_replay.specs.World.{LookerState, World, is_stopped, looker_state, offline, online, step}
+use Rattle.prt_replay.specs.declared.event.Event.{Event}
+use Rattle.prt_replay.specs.declared.event.Event.TheVariants as events
+use Rattle.prt_replay.specs.declared.outcome.Outcome.TheVariants as outcomes
 use Rattle.prt_laws.specs.Events.{is_lookers}
 use Rattle.prt_laws.specs.Registries.{IsRegistryOf, registry_after}
 use Rattle.prt_laws.specs.Publishers.{AreBothOf}
@@ -39,7 +39,8 @@ module _ (r new : RegistryState) (before place : Place) where
 
   -- if it was offline, that shows this number
   abbrev pub ShowsOnline : ℕ → Type 0
-  ShowsOnline number = (w : World) → is_stopped w.phase ≡ false → IsRegistryOf r w → Sits before None w → before.announced ≡ None → (step w (events.Online before.index)).outcome ≡ outcomes.Online before.index number
+  ShowsOnline number = (w : World) → is_stopped w.phase ≡ false → IsRegistryOf r w → Sits before None w → before.announced ≡ None →
+      (step w (events.Online before.index)).outcome ≡ outcomes.Online before.index number
 
   -- of a looker that holds the version of this number
   abbrev pub IsAnnounce : ℕ → Type 0
@@ -50,7 +51,8 @@ module _ (r new : RegistryState) (before place : Place) where
 
 -- a reclaim shows how many versions went
 abbrev pub ShowsReclaimed : RegistryState → ℕ → Type 0
-ShowsReclaimed r number = (w : World) → is_stopped w.phase ≡ false → IsReached w → IsRegistryOf r w → (step w events.Reclaim).outcome ≡ outcomes.Reclaimed number
+ShowsReclaimed r number = (w : World) → is_stopped w.phase ≡ false → IsReached w → IsRegistryOf r w →
+    (step w events.Reclaim).outcome ≡ outcomes.Reclaimed number
 
 -- a looker that joins is offline, and the registry stands for the same worlds
 abbrev pub IsJoin : RegistryState → RegistryState → Place → Type 0
@@ -63,4 +65,5 @@ IsPart r new place = (held : Option ℕ) (w : World) → is_stopped w.phase ≡ 
 
 -- Whatever a looker does, or a reclaim, a publisher and its registry stand for the world after it.
 abbrev pub EveryLookersEvent : {S : Type 0} → Ghosts S → Type 0
-EveryLookersEvent {S} g = (p : Standing (Held S)) (r : RegistryState) (w : World) (event : Event) → is_lookers event ≡ true → AreBothOf g p r w → AreBothOf g p (registry_after r w event) (step w event).world
+EveryLookersEvent {S} g = (p : Standing (Held S)) (r : RegistryState) (w : World) (event : Event) → is_lookers event ≡ true →
+    AreBothOf g p r w → AreBothOf g p (registry_after r w event) (step w event).world

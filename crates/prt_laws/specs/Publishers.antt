@@ -9,10 +9,10 @@ use Rattle.prt_publisher.specs.Standing.{Standing}
 use Rattle.prt_publisher.specs.declared.phase.Phase.{Phase}
 use Rattle.prt_publisher.specs.declared.phase.Phase.TheVariants.{Ready, Admitted, Prepared, Committed, Published, Closed}
 use Rattle.prt_version.specs.State.{State}
-use Rattle.prt_world.specs.World as world
-use Rattle.prt_world.specs.World.{Phase as Moment, World, has_room, run_from}
-use Rattle.prt_world.specs.declared.event.Event.{Event}
-use Rattle.prt_world.specs.declared.outcome.Outcome.{Outcome}
+use Rattle.prt_replay.specs.World as world
+use Rattle.prt_replay.specs.World.{Phase as Moment, World, has_room, run_from}
+use Rattle.prt_replay.specs.declared.event.Event.{Event}
+use Rattle.prt_replay.specs.declared.outcome.Outcome.{Outcome}
 use Rattle.prt_laws.specs.Registries.{IsRegistryOf}
 use Rattle.prt_grace.specs.Registry.{RegistryState}
 use Rattle.prt_laws.specs.Spots.{IsAt}
@@ -48,7 +48,8 @@ Leads g w written shown new = (all : List Event) → own all ≡ written → (ow
 
 -- And that world's disk is this state.
 abbrev pub LeadsTo : {S : Type 0} → Ghosts S → World → List Event → List Outcome → Standing (Held S) → State → Type 0
-LeadsTo g w written shown new left = (all : List Event) → own all ≡ written → (own_outcomes w all ≡ shown) × IsPublisherOf g new (run_from w all) × ((run_from w all).disk ≡ left)
+LeadsTo g w written shown new left = (all : List Event) → own all ≡ written →
+    (own_outcomes w all ≡ shown) × IsPublisherOf g new (run_from w all) × ((run_from w all).disk ≡ left)
 
 -- a world that the publisher stands for, and the registry that a lock shows
 abbrev pub AreBothOf : {S : Type 0} → Ghosts S → Standing (Held S) → RegistryState → World → Type 0

@@ -5,10 +5,11 @@ use Rattle.prt_grace.specs.Registry.{RegistryState, announced, noted_by, reclaim
 use Rattle.prt_grace.specs.declared.limits.TheConstants.{MOST_RETIRED}
 use Rattle.prt_grace.specs.declared.place.PlaceState.TheVariants as places
 use Rattle.prt_version.specs.State.{State}
-use Rattle.prt_world.specs.World as world
-use Rattle.prt_world.specs.World.{LookerState, Phase as Moment, World, announced_by, has_room, is_stopped, looker_state, offline, online, published_version, step}
-use Rattle.prt_world.specs.declared.event.Event.{Event}
-use Rattle.prt_world.specs.declared.event.Event.TheVariants as events
+use Rattle.prt_replay.specs.World as world
+use Rattle.prt_replay.specs.World.{LookerState, Phase as Moment, World, announced_by, has_room, is_stopped, looker_state, offline, online}
+use Rattle.prt_replay.specs.World.{published_version, step}
+use Rattle.prt_replay.specs.declared.event.Event.{Event}
+use Rattle.prt_replay.specs.declared.event.Event.TheVariants as events
 use Rattle.prt_laws.specs.Events.{is_going}
 use Rattle.prt_laws.specs.Spots.{IsReached}
 
@@ -64,4 +65,5 @@ RoomIsRoom = (r : RegistryState) (w : World) → IsReached w → IsRegistryOf r 
 
 -- After each event, while the service runs, the registry stands for the world.
 abbrev pub EveryEventKeepsRegistry : Type 0
-EveryEventKeepsRegistry = (r : RegistryState) (w : World) (event : Event) → is_going event ≡ true → is_stopped w.phase ≡ false → IsReached w → IsRegistryOf r w → IsRegistryOf (registry_after r w event) (step w event).world
+EveryEventKeepsRegistry = (r : RegistryState) (w : World) (event : Event) → is_going event ≡ true → is_stopped w.phase ≡ false →
+    IsReached w → IsRegistryOf r w → IsRegistryOf (registry_after r w event) (step w event).world

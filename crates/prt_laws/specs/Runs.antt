@@ -17,17 +17,19 @@ use Rattle.prt_publisher.specs.Standing.{Standing, Stands}
 use Rattle.prt_publisher.specs.declared.phase.Phase.TheVariants.{Closed, Committed, Published}
 use Rattle.prt_store.specs.Exits.{IsKnown, Spells}
 use Rattle.prt_version.specs.State.{State}
-use Rattle.prt_world.specs.Durability.{IsAcknowledged, IsAnswered, IsDurable}
-use Rattle.prt_world.specs.World.{Ack, Lookup, World, has_room, run_from, start, step}
-use Rattle.prt_world.specs.declared.event.Event.{Event}
-use Rattle.prt_world.specs.declared.event.Event.TheVariants as events
-use Rattle.prt_world.specs.declared.outcome.Outcome.TheVariants as outcomes
+use Rattle.prt_replay.specs.Durability.{IsAcknowledged, IsAnswered, IsDurable}
+use Rattle.prt_replay.specs.World.{Ack, Lookup, World, has_room, run_from, start, step}
+use Rattle.prt_replay.specs.declared.event.Event.{Event}
+use Rattle.prt_replay.specs.declared.event.Event.TheVariants as events
+use Rattle.prt_replay.specs.declared.outcome.Outcome.TheVariants as outcomes
 use Rattle.prt_rule.specs.declared.packet.Packet.{Packet}
 use Rattle.prt_version.specs.declared.answer.Answer.{Answer}
-use Rattle.prt_world.specs.declared.event.Fate.{Fate}
-use Rattle.prt_world.specs.declared.event.Fate.TheVariants.{Lost}
-use Rattle.prt_laws.specs.Events.{AsksSome, acks_to, asked, commit_events, fail_events, is_lookers, own, publish_events, reclaim_events, stop_events, without_fate}
-use Rattle.prt_laws.specs.Laws.{Admits, AdoptsAgain, BeginsAt, Commits, DeclinesBy, FailsBy, FailsToCommit, IsCutShort, Notes, PlansBy, PlansNot, Prepares, Publishes, PublishesNot, Refuses, Shows, StopsBy, SubmitFails, SubmitFailsBy, SubmitUnpublished, Submits}
+use Rattle.prt_replay.specs.declared.event.Fate.{Fate}
+use Rattle.prt_replay.specs.declared.event.Fate.TheVariants.{Lost}
+use Rattle.prt_laws.specs.Events.{AsksSome, acks_to, asked, commit_events, fail_events, is_lookers, own, publish_events, reclaim_events, stop_events}
+use Rattle.prt_laws.specs.Events.{without_fate}
+use Rattle.prt_laws.specs.Laws.{Admits, AdoptsAgain, BeginsAt, Commits, DeclinesBy, FailsBy, FailsToCommit, IsCutShort, Notes, PlansBy, PlansNot}
+use Rattle.prt_laws.specs.Laws.{Prepares, Publishes, PublishesNot, Refuses, Shows, StopsBy, SubmitFails, SubmitFailsBy, SubmitUnpublished, Submits}
 use Rattle.prt_laws.specs.Registries.{registry_after, registry_through}
 use Rattle.prt_laws.specs.Publishers.{AreBothOf}
 
@@ -133,36 +135,52 @@ module _ {S : Type 0} (g : Ghosts S) where
   -- A crash may leave these trees of a file that is known. After a failed commit they encode the state that was chosen for
   -- the world.
   abbrev pub LeavesFile : Standing (Held S) → World → Trees → Type 0
-  LeavesFile old w trees = IsKnown g old.ours_first old.tables × (state g old.tables).may_leave trees × (old.phase ≡ Closed → old.commands ≡ [] → Spells trees w.disk)
+  LeavesFile old w trees = IsKnown g old.ours_first old.tables × (state g old.tables).may_leave trees
+      × (old.phase ≡ Closed → old.commands ≡ [] → Spells trees w.disk)
 
   -- The law of the call that has this exit. The registry changes under its lock alone: by a step that is handed it, by a
   -- looker's call, or when a place is taken or given up.
   abbrev pub Acts : Standing (Held S) → RegistryState → World → Act → Standing (Held S) → RegistryState → Type 0
   Acts old r w (beside event) new after = (is_lookers event ≡ true) × (new ≡ old) × (after ≡ registry_after r w event)
   Acts old r w (looked looker packet answer) new after = (new ≡ old) × (after ≡ r) × ((step w (events.Look looker packet)).outcome ≡ outcomes.Answered answer)
-  Acts old r w (seated looker place) new after = (announced (slice_index_or r.places looker Free) ≡ None) × (announced place ≡ None) × (new ≡ old) × (after ≡ with_place r looker place)
+  Acts old r w (seated looker place) new after =
+      (announced (slice_index_or r.places looker Free) ≡ None) × (announced place ≡ None) × (new ≡ old) × (after ≡ with_place r looker place)
   Acts old r w admitted new after = Admits g old new r after
   Acts old r w (declined event why reclaims) new after = AsksSome event × DeclinesBy g old new reclaims r after event why
   Acts old r w (planned event) new after = AsksSome event × (after ≡ r) × PlansBy g old new event
   Acts old r w unplanned new after = (after ≡ r) × PlansNot g old new NoMemory
   Acts old r w (committed all) new after = (own all ≡ commit_events old.commands) × (after ≡ registry_through r w all) × Commits g old new
-  Acts old r w (failed call fate left all) new after = (own all ≡ fail_events old.commands call fate) × (after ≡ registry_through r w all) × FailsBy g old new call fate left × FailsToCommit g old new (StoreFailed call)
+  Acts old r w (failed call fate left all) new after =
+      (own all ≡ fail_events old.commands call fate) × (after ≡ registry_through r w all) × FailsBy g old new call fate left
+      × FailsToCommit g old new (StoreFailed call)
   Acts old r w shown new after = (after ≡ r) × Shows g old new
   Acts old r w unshown new after = (after ≡ r) × (old.phase ≡ Committed) × PublishesNot g old new NotPublished
-  Acts old r w (noted commands told more) new after = (old.phase ≡ Published) × (old.commands ≡ commands) × (own more ≡ events.Ack ∷ []) × (mid : RegistryState) × (after ≡ registry_through mid (step w events.Note).world more) × Notes g old new r mid told
+  Acts old r w (noted commands told more) new after =
+      (old.phase ≡ Published) × (old.commands ≡ commands) × (own more ≡ events.Ack ∷ []) × (mid : RegistryState)
+      × (after ≡ registry_through mid (step w events.Note).world more) × Notes g old new r mid told
   Acts old r w (prepared event) new after = AsksSome event × (has_room w ≡ true) × (after ≡ r) × Prepares g old new event
-  Acts old r w (published commands told all) new after = (own all ≡ publish_events) × (old.phase ≡ Committed) × (old.commands ≡ commands) × (after ≡ registry_through r w all) × Publishes g old new told
-  Acts old r w (submitted event told more) new after = AsksSome event × (own more ≡ commit_events (asked event) ++ publish_events) × (has_room w ≡ true) × (after ≡ registry_through r w (event ∷ more)) × TakesAll old (asked event) × Submits g old new event told
+  Acts old r w (published commands told all) new after =
+      (own all ≡ publish_events) × (old.phase ≡ Committed) × (old.commands ≡ commands) × (after ≡ registry_through r w all) × Publishes g old new told
+  Acts old r w (submitted event told more) new after =
+      AsksSome event × (own more ≡ commit_events (asked event) ++ publish_events) × (has_room w ≡ true)
+      × (after ≡ registry_through r w (event ∷ more)) × TakesAll old (asked event) × Submits g old new event told
   Acts old r w (refused event why) new after = AsksSome event × (why ≡ Busy → has_room w ≡ false) × (after ≡ r) × Refuses g old new event why
-  Acts old r w (submit_failed event call fate left more) new after = AsksSome event × (own more ≡ fail_events (asked event) call fate) × (has_room w ≡ true) × (after ≡ registry_through r w (event ∷ more)) × SubmitFailsBy g old new event call fate left × SubmitFails g old new event (StoreFailed call)
-  Acts old r w (submit_unpublished event more) new after = AsksSome event × (own more ≡ commit_events (asked event) ++ events.PublishFail ∷ []) × (has_room w ≡ true) × (after ≡ registry_through r w (event ∷ more)) × SubmitUnpublished g old new event NotPublished
+  Acts old r w (submit_failed event call fate left more) new after =
+      AsksSome event × (own more ≡ fail_events (asked event) call fate) × (has_room w ≡ true)
+      × (after ≡ registry_through r w (event ∷ more)) × SubmitFailsBy g old new event call fate left × SubmitFails g old new event (StoreFailed call)
+  Acts old r w (submit_unpublished event more) new after =
+      AsksSome event × (own more ≡ commit_events (asked event) ++ events.PublishFail ∷ []) × (has_room w ≡ true)
+      × (after ≡ registry_through r w (event ∷ more)) × SubmitUnpublished g old new event NotPublished
   Acts old r w (adopted trees) new after = (after ≡ new_registry (line_state new.line)) × LeavesFile old w trees × AdoptsAgain g trees new
-  Acts old r w (stopped call fate all) new after = (own all ≡ stop_events old.commands call fate) × (after ≡ new_registry (line_state new.line)) × StopsBy g old new call fate
+  Acts old r w (stopped call fate all) new after =
+      (own all ≡ stop_events old.commands call fate) × (after ≡ new_registry (line_state new.line)) × StopsBy g old new call fate
 
   -- one after the other
   abbrev pub ActsAll : Standing (Held S) → RegistryState → World → List Act → Standing (Held S) → RegistryState → Type 0
   ActsAll old r w [] new after = (new ≡ old) × (after ≡ r)
-  ActsAll old r w (act ∷ acts) new after = (mid : Standing (Held S)) × (between : RegistryState) × Acts old r w act mid between × ActsAll mid between (run_from w (act_events act)) acts new after
+  ActsAll old r w (act ∷ acts) new after =
+      (mid : Standing (Held S)) × (between : RegistryState) × Acts old r w act mid between
+      × ActsAll mid between (run_from w (act_events act)) acts new after
 
   -- ---- a submission by its steps
 
@@ -190,19 +208,28 @@ module _ {S : Type 0} (g : Ghosts S) where
   -- Whatever file a crash may leave after a run on a new one encodes a state, which holds all that was acknowledged and
   -- answered in the world of the run's events. Once a commit has failed that is the world of the fate which fits.
   abbrev pub EveryRunLeaves : Type 0
-  EveryRunLeaves = (acts : List Act) (old new : Standing (Held S)) (after : RegistryState) → BeginsAt g old start → ActsAll old (new_registry (line_state old.line)) start acts new after
+  EveryRunLeaves = (acts : List Act) (old new : Standing (Held S)) (after : RegistryState) → BeginsAt g old start →
+      ActsAll old (new_registry (line_state old.line)) start acts new after
       → Stands g new → IsKnown g new.ours_first new.tables → (trees : Trees) → (state g new.tables).may_leave trees
-      → (left : State) × Spells trees left × (again : List Act) × SameButFates again acts × ActsAll old (new_registry (line_state old.line)) start again new after × HoldsAll (run_from start (events_of again)) (receipts_of acts) (answers_of acts) left
+      → (left : State) × Spells trees left × (again : List Act) × SameButFates again acts
+      × ActsAll old (new_registry (line_state old.line)) start again new after
+      × HoldsAll (run_from start (events_of again)) (receipts_of acts) (answers_of acts) left
 
   -- And whichever file it leaves is adopted: the run goes on.
   abbrev pub EveryRunGoesOn : Type 0
-  EveryRunGoesOn = (acts : List Act) (old new last : Standing (Held S)) (after : RegistryState) → BeginsAt g old start → ActsAll old (new_registry (line_state old.line)) start acts new after
+  EveryRunGoesOn = (acts : List Act) (old new last : Standing (Held S)) (after : RegistryState) → BeginsAt g old start →
+      ActsAll old (new_registry (line_state old.line)) start acts new after
       → Stands g new → IsKnown g new.ours_first new.tables → (trees : Trees) → (state g new.tables).may_leave trees → AdoptsAgain g trees last
-      → (again : List Act) × SameButFates again acts × ActsAll old (new_registry (line_state old.line)) start (again ++ adopted trees ∷ []) last (new_registry (line_state last.line))
+      → (again : List Act) × SameButFates again acts
+      × ActsAll old (new_registry (line_state old.line)) start (again ++ adopted trees ∷ []) last (new_registry (line_state last.line))
 
   -- If a commit is stopped within a store call after a run, whatever file a crash then leaves encodes a state that holds
   -- all of it too, before it is opened again.
   abbrev pub EveryStopLeaves : Type 0
-  EveryStopLeaves = (acts : List Act) (old mid : Standing (Held S)) (after : RegistryState) → BeginsAt g old start → ActsAll old (new_registry (line_state old.line)) start acts mid after
-      → Stands g mid → (call : StoreCall) (now : Held S) → IsCutShort g mid call now → IsKnown g mid.ours_first now → (trees : Trees) → (state g now).may_leave trees
-      → (left : State) × Spells trees left × (fate : Fate) × ((all : List Event) → own all ≡ stop_events mid.commands call fate → HoldsAll (run_from start (events_of acts ++ all)) (receipts_of acts) (answers_of acts) left)
+  EveryStopLeaves = (acts : List Act) (old mid : Standing (Held S)) (after : RegistryState) → BeginsAt g old start →
+      ActsAll old (new_registry (line_state old.line)) start acts mid after
+      → Stands g mid → (call : StoreCall) (now : Held S) → IsCutShort g mid call now → IsKnown g mid.ours_first now → (trees : Trees) →
+      (state g now).may_leave trees
+      → (left : State) × Spells trees left × (fate : Fate)
+      × ((all : List Event) → own all ≡ stop_events mid.commands call fate →
+      HoldsAll (run_from start (events_of acts ++ all)) (receipts_of acts) (answers_of acts) left)

@@ -5,10 +5,10 @@ use Rattle.prt_published.specs.Line.{Begins, Line, line_state}
 use Rattle.prt_rule.specs.declared.packet.Packet.{Packet}
 use Rattle.prt_service.specs.Look.{Look}
 use Rattle.prt_version.specs.declared.answer.Answer.{Answer}
-use Rattle.prt_world.specs.World.{World, is_stopped, looker_state, offline, published_version, run_from, step}
-use Rattle.prt_world.specs.declared.event.Event.{Event}
-use Rattle.prt_world.specs.declared.event.Event.TheVariants as events
-use Rattle.prt_world.specs.declared.outcome.Outcome.TheVariants as outcomes
+use Rattle.prt_replay.specs.World.{World, is_stopped, looker_state, offline, published_version, run_from, step}
+use Rattle.prt_replay.specs.declared.event.Event.{Event}
+use Rattle.prt_replay.specs.declared.event.Event.TheVariants as events
+use Rattle.prt_replay.specs.declared.outcome.Outcome.TheVariants as outcomes
 use Rattle.prt_laws.specs.Lookers.{seat}
 use Rattle.prt_laws.specs.Spots.{IsAt, IsReached, Spot}
 
@@ -62,7 +62,8 @@ Refreshes old new = (i : ℕ) (w : World) (before between after : List Event) �
 abbrev pub RefreshesNot : Look → Look → Type 0
 RefreshesNot old new = (i : ℕ) (w : World) (before between : List Event) → Seated old i w → Others i before → Others i between
     → (Seated new i (run_from w before))
-    × (old.held ≡ None → Runs (run_from w before) → Runs (fetching w i before between) → Seated new i (step (fetching w i before between) (events.Offline i)).world)
+    × (old.held ≡ None → Runs (run_from w before) → Runs (fetching w i before between) →
+    Seated new i (step (fetching w i before between) (events.Offline i)).world)
 
 -- to learn is no event
 abbrev pub Learns : Look → Look → Type 0

@@ -3,10 +3,10 @@ use Rattle.std.specs.Prelude.{◌≡◌, ℕ, ◌≤◌, ◌++◌, take, true, L
 use Rattle.prt_command.specs.declared.request.Command.{Command}
 use Rattle.prt_published.specs.Line.{Line, line_state}
 use Rattle.prt_version.specs.State.{State}
-use Rattle.prt_world.specs.Durability.{state_after}
-use Rattle.prt_world.specs.World as world
-use Rattle.prt_world.specs.World.{Phase as Moment, World, has_room, published_version, run_from, start}
-use Rattle.prt_world.specs.declared.event.Event.{Event}
+use Rattle.prt_replay.specs.Durability.{state_after}
+use Rattle.prt_replay.specs.World as world
+use Rattle.prt_replay.specs.World.{Phase as Moment, World, has_room, published_version, run_from, start}
+use Rattle.prt_replay.specs.declared.event.Event.{Event}
 
 -- some list of events leads there from a new database
 abbrev pub IsReached : World → Type 0

@@ -18,20 +18,23 @@ use Rattle.prt_version.specs.Change.{apply, refusal}
 use Rattle.prt_version.specs.State.{State, opening_state}
 use Rattle.prt_args.specs.declared.task.Mode.{Mode}
 use Rattle.prt_args.specs.declared.task.Mode.TheVariants.{InTurn, Together}
-use Rattle.prt_world.specs.Durability.{IsAnswered}
-use Rattle.prt_world.specs.World.{World}
+use Rattle.prt_replay.specs.Durability.{IsAnswered}
+use Rattle.prt_replay.specs.World.{World}
 use Rattle.prt_laws.specs.Desks.{Does, Exchanges, Work, WorkTells, accepted_by, accepted_in, file, reading_refused, script}
 use Rattle.prt_laws.specs.Runs.{HoldsAll}
 use Rattle.prt_laws.specs.Spots.{IsReached}
 
 -- what a session did: the lines that it executed, or the file that it read
-abbrev pub work_of : (mode : Mode) (before after : DeskState) (reader0 reader writer0 writer : Option (List ℕ)) (end : ScriptEnd) → SessionIs (λ mishap. ⊤) mode before after reader0 reader writer0 writer end → Work
+abbrev pub work_of : (mode : Mode) (before after : DeskState) (reader0 reader writer0 writer : Option (List ℕ)) (end : ScriptEnd) →
+    SessionIs (λ mishap. ⊤) mode before after reader0 reader writer0 writer end → Work
 work_of (InTurn on_refusal) before after reader0 reader writer0 writer end run = script (session request_turn before run.input on_refusal run.mishaps).exchanges
-work_of Together before after reader0 reader writer0 writer end run = file run.input run.mishaps run.mishap (atomic_output before run.input run.mishaps run.mishap).replies
+work_of Together before after reader0 reader writer0 writer end run =
+    file run.input run.mishaps run.mishap (atomic_output before run.input run.mishaps run.mishap).replies
 
 -- That is a script, or an atomic file, which leads from the desk that it began with to the one that it left.
 abbrev pub RunIsWork : Type 0
-RunIsWork = (mode : Mode) (before after : DeskState) (reader0 reader writer0 writer : Option (List ℕ)) (end : ScriptEnd) (run : SessionIs (λ mishap. ⊤) mode before after reader0 reader writer0 writer end)
+RunIsWork = (mode : Mode) (before after : DeskState) (reader0 reader writer0 writer : Option (List ℕ)) (end : ScriptEnd)
+    (run : SessionIs (λ mishap. ⊤) mode before after reader0 reader writer0 writer end)
     → Does before (work_of mode before after reader0 reader writer0 writer end run) after
 
 -- a line whose command was stored, and that nobody heard of
@@ -53,7 +56,8 @@ FileEnds = (input : Input) (mishaps : List (Option Mishap)) → length input.byt
 
 -- If its reading was refused, or failed, that is the one reply, and nothing was submitted.
 abbrev pub RefusedFileDoesNothing : Type 0
-RefusedFileDoesNothing = (desk : DeskState) (input : Input) (mishaps : List (Option Mishap)) (mishap : Option Mishap) (refused : Reply) → reading_refused input mishaps ≡ Some refused
+RefusedFileDoesNothing = (desk : DeskState) (input : Input) (mishaps : List (Option Mishap)) (mishap : Option Mishap) (refused : Reply) →
+    reading_refused input mishaps ≡ Some refused
     → ((atomic_output desk input mishaps mishap).replies ≡ refused ∷ []) × ((atomic_output desk input mishaps mishap).desk ≡ desk)
 
 -- ---- one run after another
@@ -74,9 +78,11 @@ Follow stored [] found = found ≡ stored
 Follow stored (ran ∷ rans) found = (ran.opened ≡ stored) × Follow ran.found rans found
 
 abbrev pub works_of : List Ran → List Work
-works_of rans = map (λ (ran : Ran). work_of ran.mode (settled ran.opened) ran.leaves.0 ran.streams.input ran.reader ran.streams.output_before ran.streams.output_after ran.end ran.leaves.1) rans
+works_of rans = map (λ (ran : Ran). work_of ran.mode
+    (settled ran.opened) ran.leaves.0 ran.streams.input ran.reader ran.streams.output_before ran.streams.output_after ran.end ran.leaves.1) rans
 
--- What is found after any number of runs on a new database holds every command that their replies acknowledge, under its number, and the version by which each `route get` was answered.
+-- What is found after any number of runs on a new database holds every command that their replies acknowledge, under its number,
+-- and the version by which each `route get` was answered.
 abbrev pub RunsHold : Type 0
 RunsHold = (rans : List Ran) (found : State) → Follow opening_state rans found → (v : World) × IsReached v × (v.acks ≡ accepted_by (works_of rans))
     × HoldsAll v (accepted_by (works_of rans)) v.answers found × Each (WorkTells (IsAnswered v)) (works_of rans)

@@ -10,11 +10,12 @@ ghost use Rattle.prt_publisher.specs.Step.{AreChecked, commands_checked};
 ghost use Rattle.prt_rows.specs.Effects.{AreEmpty};
 ghost use Rattle.prt_store.specs.Exits.{IsKnown, MayLeave};
 ghost use Rattle.prt_version.specs.State.{State};
-ghost use Rattle.prt_world.specs.World.{run_from, start};
-ghost use Rattle.prt_world.specs.declared.event.Event.{Event};
-ghost use Rattle.prt_world.specs.declared.event.Event.TheVariants.{Submit, SubmitAll};
+ghost use Rattle.prt_replay.specs.World.{run_from, start};
+ghost use Rattle.prt_replay.specs.declared.event.Event.{Event};
+ghost use Rattle.prt_replay.specs.declared.event.Event.TheVariants.{Submit, SubmitAll};
 ghost use Rattle.prt_laws.specs.Events.{AsksSome, asked};
-ghost use Rattle.prt_laws.specs.Laws.{Admits, AdoptsAgain, AdoptsStopped, BeginsAt, ChecksNot, Commits, DeclinesBy, FailsToCommit, Notes, Plans, PlansNot, Prepares, PreparesNot, Publishes, PublishesNot, Shows, Submits, SubmitsNot};
+ghost use Rattle.prt_laws.specs.Laws.{Admits, AdoptsAgain, AdoptsStopped, BeginsAt, ChecksNot, Commits, DeclinesBy, FailsToCommit, Notes, Plans};
+ghost use Rattle.prt_laws.specs.Laws.{PlansNot, Prepares, PreparesNot, Publishes, PublishesNot, Shows, Submits, SubmitsNot};
 ghost use Rattle.prt_laws.specs.Runs.{Acknowledges, HoldsAll, TakesNot, events_of, receipts_of, step_acts};
 
 use prt_command::{Command, Refusal};
@@ -60,7 +61,8 @@ pub fn admit<S: Alter + Drop>(
     requires checked { AreChecked (line_state publisher.old.line) checked }
     ensures ok { OnOk result (Admits S.Store publisher.old publisher.new registry.old registry.new) }
     ensures then { OnOk result ((publisher.new.phase ≡ Phase.Admitted) × (publisher.new.commands ≡ commands_checked checked)) }
-    ensures err { IfErr result (λ why. (event : Event) → AsksSome event → commands_checked checked ≡ asked event → DeclinesBy S.Store publisher.old publisher.new true registry.old registry.new event why) }
+    ensures err { IfErr result (λ why. (event : Event) → AsksSome event → commands_checked checked ≡ asked event →
+        DeclinesBy S.Store publisher.old publisher.new true registry.old registry.new event why) }
 {
     match publisher.admit(registry, checked) {
         Ok(()) => Ok(()),
@@ -108,7 +110,7 @@ pub fn commit<S: Alter + Drop>(publisher: &mut Publisher<S>) -> Result<(), Refus
 /// # Errors
 ///
 /// `NotPublished`: the publication fails.
-pub fn show<S: Alter + Drop, W: Wait>(publisher: &mut Publisher<S>, rt: &W) -> Result<(), Refusal>
+pub fn show<S: Alter + Drop, H: Wait>(publisher: &mut Publisher<S>, rt: &H) -> Result<(), Refusal>
     requires { publisher.old.phase ≡ Phase.Committed }
     ensures ok { OnOk result (Shows S.Store publisher.old publisher.new) }
     ensures then { OnOk result ((publisher.new.phase ≡ Phase.Published) × (publisher.new.commands ≡ publisher.old.commands)) }
@@ -134,17 +136,19 @@ pub fn note<S: Alter + Drop>(publisher: &mut Publisher<S>, registry: &mut Locked
 /// # Errors
 ///
 /// Those of the steps.
-pub fn submit_by_steps<S: Alter + Drop, W: Wait>(
+pub fn submit_by_steps<S: Alter + Drop, H: Wait>(
     publisher: &mut Publisher<S>,
-    rt: &W,
+    rt: &H,
     registry: &mut LockedRegistry,
     commands: &[Command],
 ) -> Result<Receipt, Refusal>
     requires quiet { IsQuiet publisher.old.phase }
     requires some { 1 ≤ length commands.now }
     requires storable { All IsStorable commands.now }
-    ensures ok { IfOk result (λ told. (event : Event) → commands.now ≡ asked event → Acknowledges S.Store publisher.old registry.old event told publisher.new registry.new) }
-    ensures err { IfErr result (λ why. (event : Event) → commands.now ≡ asked event → TakesNot S.Store publisher.old registry.old event why publisher.new registry.new) }
+    ensures ok { IfOk result (λ told. (event : Event) → commands.now ≡ asked event →
+        Acknowledges S.Store publisher.old registry.old event told publisher.new registry.new) }
+    ensures err { IfErr result (λ why. (event : Event) → commands.now ≡ asked event →
+        TakesNot S.Store publisher.old registry.old event why publisher.new registry.new) }
 {
     let checked = match check_all(publisher, commands) {
         Ok(checked) => checked,
@@ -172,9 +176,9 @@ pub fn submit_by_steps<S: Alter + Drop, W: Wait>(
 /// # Errors
 ///
 /// Those of the steps.
-pub fn first_commands<S: Alter + Drop, W: Wait>(
+pub fn first_commands<S: Alter + Drop, H: Wait>(
     publisher: &mut Publisher<S>,
-    rt: &W,
+    rt: &H,
     registry: &mut LockedRegistry,
     commands: &[Command],
 ) -> Result<Receipt, Refusal>
@@ -182,7 +186,8 @@ pub fn first_commands<S: Alter + Drop, W: Wait>(
     requires some { 1 ≤ length commands.now }
     requires storable { All IsStorable commands.now }
     requires registry { registry.old ≡ new_registry (line_state publisher.old.line) }
-    ensures { IfOk result (λ told. (event : Event) → commands.now ≡ asked event → BeginsAt S.Store publisher.old start → IsKnown S.Store publisher.new.ours_first publisher.new.tables → (left : State) → MayLeave S.Store publisher.new.tables left →
+    ensures { IfOk result (λ told. (event : Event) → commands.now ≡ asked event → BeginsAt S.Store publisher.old start →
+        IsKnown S.Store publisher.new.ours_first publisher.new.tables → (left : State) → MayLeave S.Store publisher.new.tables left →
         HoldsAll (run_from start (events_of (step_acts event told))) (receipts_of (step_acts event told)) [] left) }
 {
     match submit_by_steps(publisher, rt, registry, commands) {
@@ -197,9 +202,9 @@ pub fn first_commands<S: Alter + Drop, W: Wait>(
 ///
 /// Those of `Publisher::prepare`. The world refuses the command for the same reason, for want of room if it has none;
 /// of `NoMemory` it has no event.
-pub fn prepare<S: Alter + Drop, W: Wait>(
+pub fn prepare<S: Alter + Drop, H: Wait>(
     publisher: &mut Publisher<S>,
-    rt: &W,
+    rt: &H,
     domain: &Domain,
     command: &Command,
 ) -> Result<(), Refusal>
@@ -220,9 +225,9 @@ pub fn prepare<S: Alter + Drop, W: Wait>(
 ///
 /// Those of `Publisher::prepare_all`. The world refuses the commands for the same reason, for want of room if it has
 /// none; of `NoMemory` it has no event.
-pub fn prepare_all<S: Alter + Drop, W: Wait>(
+pub fn prepare_all<S: Alter + Drop, H: Wait>(
     publisher: &mut Publisher<S>,
-    rt: &W,
+    rt: &H,
     domain: &Domain,
     commands: &[Command],
 ) -> Result<(), Refusal>
@@ -243,9 +248,9 @@ pub fn prepare_all<S: Alter + Drop, W: Wait>(
 /// # Errors
 ///
 /// `NotPublished`: the publication fails.
-pub fn publish<S: Alter + Drop, W: Wait>(
+pub fn publish<S: Alter + Drop, H: Wait>(
     publisher: &mut Publisher<S>,
-    rt: &W,
+    rt: &H,
     domain: &Domain,
 ) -> Result<Receipt, Refusal>
     requires { publisher.old.phase ≡ Phase.Committed }
@@ -263,9 +268,9 @@ pub fn publish<S: Alter + Drop, W: Wait>(
 /// # Errors
 ///
 /// Those of `Publisher::submit`, each with its events.
-pub fn submit<S: Alter + Drop, W: Wait>(
+pub fn submit<S: Alter + Drop, H: Wait>(
     publisher: &mut Publisher<S>,
-    rt: &W,
+    rt: &H,
     domain: &Domain,
     command: &Command,
 ) -> Result<Receipt, Refusal>
@@ -285,9 +290,9 @@ pub fn submit<S: Alter + Drop, W: Wait>(
 /// # Errors
 ///
 /// Those of `Publisher::submit_all`, each with its events: all of the commands are stored, or none.
-pub fn submit_all<S: Alter + Drop, W: Wait>(
+pub fn submit_all<S: Alter + Drop, H: Wait>(
     publisher: &mut Publisher<S>,
-    rt: &W,
+    rt: &H,
     domain: &Domain,
     commands: &[Command],
 ) -> Result<Receipt, Refusal>
@@ -314,8 +319,10 @@ pub fn adopt<S: Alter + Drop>(
     conn: Connection<S>,
 ) -> Result<(Publisher<S>, Domain), (Refusal, Connection<S>)>
     ensures fresh { IfOk result (λ made. AreEmpty (state S.Store conn).now → IsKnown S.Store made.0.ours_first made.0.tables → BeginsAt S.Store made.0 start) }
-    ensures again { IfOk result (λ made. HasCleanDisk (state S.Store made.0.tables) → IsTrue (state S.Store conn).is_open → AdoptsAgain S.Store (state S.Store conn).now.trees made.0) }
-    ensures stopped { IfOk result (λ made. HasCleanDisk (state S.Store made.0.tables) → IsTrue (state S.Store conn).is_open → AdoptsStopped S.Store (state S.Store conn).now.trees made.0) }
+    ensures again { IfOk result (λ made. HasCleanDisk (state S.Store made.0.tables) → IsTrue (state S.Store conn).is_open →
+        AdoptsAgain S.Store (state S.Store conn).now.trees made.0) }
+    ensures stopped { IfOk result (λ made. HasCleanDisk (state S.Store made.0.tables) → IsTrue (state S.Store conn).is_open →
+        AdoptsStopped S.Store (state S.Store conn).now.trees made.0) }
 {
     match Publisher::adopt(alloc, conn) {
         Ok((publisher, domain)) => Ok((publisher, domain)),

@@ -13,8 +13,8 @@ use std::sync::Wait;
 /// # Errors
 ///
 /// `Full`.
-pub fn looker<S: Alter + Drop, J: ServiceBrand, W: Wait>(
-    rt: &W,
+pub fn looker<S: Alter + Drop, J: ServiceBrand, H: Wait>(
+    rt: &H,
     service: &Service<S, J>,
 ) -> Result<Looker, Refusal>
     ensures { IfOk result IsMade }
@@ -38,9 +38,9 @@ pub fn learn(looker: &mut Looker, receipt: Receipt)
 /// # Errors
 ///
 /// `NotFetched`: the looker is as it was.
-pub fn refresh<S: Alter + Drop, J: ServiceBrand, W: Wait>(
+pub fn refresh<S: Alter + Drop, J: ServiceBrand, H: Wait>(
     looker: &mut Looker,
-    rt: &W,
+    rt: &H,
     service: &Service<S, J>,
 ) -> Result<(), Refusal>
     requires { (looker.old.known.book ≡ J.book) × (looker.old.known.base ≡ J.base) }
@@ -54,9 +54,9 @@ pub fn refresh<S: Alter + Drop, J: ServiceBrand, W: Wait>(
 }
 
 /// Releases its version, and takes the looker offline.
-pub fn rest<S: Alter + Drop, J: ServiceBrand, W: Wait>(
+pub fn rest<S: Alter + Drop, J: ServiceBrand, H: Wait>(
     looker: &mut Looker,
-    rt: &W,
+    rt: &H,
     service: &Service<S, J>,
 )
     requires { (looker.old.known.book ≡ J.book) × (looker.old.known.base ≡ J.base) }

@@ -1,8 +1,8 @@
 //! The registry's calls for lookers, with what they are in the world. A domain makes them under its lock.
 ghost use Rattle.std.specs.Prelude.{◌≡◌, ◌≤◌, IfSome, IsSome};
 ghost use Rattle.prt_grace.specs.Registry.{HasPlace};
-ghost use Rattle.prt_world.specs.World.{World};
-ghost use Rattle.prt_world.specs.declared.event.Event.TheVariants.{Reclaim};
+ghost use Rattle.prt_replay.specs.World.{World};
+ghost use Rattle.prt_replay.specs.declared.event.Event.TheVariants.{Reclaim};
 ghost use Rattle.prt_laws.specs.Lookers.{IsAnnounce, IsJoin, IsOffline, IsOnline, IsPart, ShowsOnline, ShowsReclaimed};
 ghost use Rattle.prt_laws.specs.Registries.{registry_after};
 

@@ -23,7 +23,19 @@ route_of table block kind = record { table = table; prefix = block; metric = 0; 
 
 -- a route of this table through 192.0.2.x
 abbrev pub through : ℕ → ℕ → Block → ℕ → Route
-through x table block metric = record { table = table; prefix = block; metric = metric; kind = Unicast; via = Some (address 192 0 2 x); dev = None; src = None; proto = 3; scope = 0 }
+through x table block metric =
+    record {
+      table = table;
+      prefix = block;
+      metric = metric;
+      kind = Unicast;
+      via = Some (address 192 0 2 x);
+      dev = None;
+      src = None;
+      proto =
+          3;
+      scope = 0;
+    }
 
 -- the prefix of one address
 abbrev pub host : ℕ → ℕ → ℕ → ℕ → Block
@@ -39,4 +51,16 @@ masked mark mask = Some (record { mark = mark; mask = mask })
 
 -- a rule for every packet
 abbrev pub rule_for_all : ℕ → Action → Rule
-rule_for_all priority action = record { id = 4; priority = priority; inverted = false; from = everything; to = everything; iif = None; mark = None; action = action; suppress = None }
+rule_for_all priority action =
+    record {
+      id = 4;
+      priority = priority;
+      inverted = false;
+      from = everything;
+      to = everything;
+      iif = None;
+      mark = None;
+      action =
+          action;
+      suppress = None;
+    }

@@ -13,7 +13,9 @@ pub fn plain_routes()
     ensures of_main { route_text (through 1 254 everything 0) Shown ≡ codes "default via 192.0.2.1" }
     ensures of_default { route_text (route_of 253 everything kinds.Throw) Shown ≡ codes "throw default table default" }
     ensures without_table { route_text (route_of 253 everything kinds.Throw) LeftOut ≡ codes "throw default" }
-    ensures with_numbers { route_text (record (route_of 254 (host 10 1 2 3) kinds.Unicast) { dev = Some (codes "a"); proto = 99; scope = 1 }) LeftOut ≡ codes "10.1.2.3 dev a proto 99 scope 1" }
+    ensures with_numbers { route_text
+        (record (route_of 254 (host 10 1 2 3) kinds.Unicast) { dev = Some (codes "a"); proto = 99; scope = 1 }) LeftOut
+        ≡ codes "10.1.2.3 dev a proto 99 scope 1" }
     ensures of_address_0 { route_text (route_of 254 (host 0 0 0 0) kinds.Prohibit) LeftOut ≡ codes "prohibit 0.0.0.0" }
 {}
 

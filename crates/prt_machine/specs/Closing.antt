@@ -16,7 +16,8 @@ IsOnlyRead g reason old new = (reason ≢ Damaged → new ≡ old) × ((new ≡ 
 
 -- The database at a path, if it is one that is wanted, was opened as the first connection, and closed as the last, with this
 -- between them. Nothing else was done to databases.
-pub record IsClosedAgain {M S : Type 0} (by : Opener M (Held S)) (wanted : Wanted) (Made : Held S → Held S → Type 0) (old new : M) (path : List ℕ) : Type 0 where
+pub record IsClosedAgain {M S : Type 0} (by : Opener M (Held S)) (wanted : Wanted) (Made : Held S → Held S → Type 0) (old new : M)
+    (path : List ℕ) : Type 0 where
   pub between : M
   pub first : Held S
   pub last : Held S
@@ -30,4 +31,5 @@ IsRefusedFor {S} g reason first last = (left : Held S) × HasRefused g first lef
 
 -- No database is open, for this reason: the machine gave none that is wanted, or what it gave was refused and closed again.
 abbrev pub LeavesNoneOpen : {M S : Type 0} → Ghosts S → Opener M (Held S) → Wanted → Refusal → M → M → List ℕ → Type 0
-LeavesNoneOpen g by wanted reason old new path = ((reason ≡ OpenFailed) × by.refuses wanted old new path) ⊎ IsClosedAgain by wanted (IsRefusedFor g reason) old new path
+LeavesNoneOpen g by wanted reason old new path =
+    ((reason ≡ OpenFailed) × by.refuses wanted old new path) ⊎ IsClosedAgain by wanted (IsRefusedFor g reason) old new path

@@ -4,11 +4,11 @@ use crate::cause::Cause;
 use crate::database_opener::{DatabaseOpener, Wanted};
 use crate::host::Host;
 use crate::opening::open_desk;
-use prt_desk::StoreDesk;
 use prt_program::{Databases, Refusal};
+use prt_publisher::StoreDesk;
 use std::alloc::Global;
 
-/// The databases of a machine, each over a durable desk. The desks wait with the handle `H`.
+/// The databases of a host, each over a durable desk.
 #[derive(Drop)]
 pub struct DatabaseFiles<'a, H: Host> {
     /// What opens and closes their files.
@@ -20,7 +20,7 @@ pub struct DatabaseFiles<'a, H: Host> {
 }
 
 impl<'a, H: Host> Databases for DatabaseFiles<'a, H> {
-    ghost use Rattle.prt_desk.specs.StoreDesk.{IsKept, LeavesFound};
+    ghost use Rattle.prt_publisher.specs.StoreDesk.{IsKept, LeavesFound};
     ghost use Rattle.prt_machine.specs.Closing.{LeavesNoneOpen};
     ghost use Rattle.prt_publisher.specs.Openings.{OpensOne};
     ghost use Rattle.prt_machine.specs.declared.database_opener.Wanted.TheVariants.{Any};

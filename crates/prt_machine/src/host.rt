@@ -3,9 +3,10 @@
 use crate::database_opener::DatabaseOpener;
 use crate::door::ServerNet;
 use crate::measures::Measures;
-use prt_program::{ErrorKeeping, ReadFiles};
+use prt_program::{ErrorKeeping, ReadFiles, StandardStreams};
 use sqlite::{Alter, Connection};
 use std::io::{self, IsTerminal, Read, Write};
+use std::marker::PhantomData;
 use std::rt::Clock;
 use std::sync::Wait;
 use std::thread::Threads;
@@ -35,6 +36,19 @@ pub trait Streams {
 
     /// The standard error.
     type Errors: Write + IsTerminal + Drop + Send;
+}
+
+/// The standard streams of a host.
+pub struct StreamsOf<H> {
+    types: PhantomData<H>,
+}
+
+impl<H: Streams> StandardStreams for StreamsOf<H> {
+    type Input = H::Input;
+
+    type Output = H::Output;
+
+    type Errors = H::Errors;
 }
 
 /// What the program runs on: its databases and its network, beside files and streams.

@@ -15,7 +15,7 @@ pub use cause::Cause;
 pub use database_opener::{DatabaseOpener, Wanted};
 pub use databases::DatabaseFiles;
 pub use door::{Door, ServerNet, is_local};
-pub use host::{Host, KeepsError, Streams};
+pub use host::{Host, KeepsError, Streams, StreamsOf};
 pub use local::{LocalNet, Socket};
 pub use measures::Measures;
 pub use opening::{close_at, open_desk, open_publisher, report_unopened};

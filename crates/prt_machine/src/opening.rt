@@ -1,7 +1,7 @@
 //! Publishers and desks over the databases of a machine.
 ghost use Rattle.std.specs.Prelude.{◌≡◌, IfErr, IfOk, OnOk};
 ghost use Rattle.prt_refusals.specs.Opening.{IsOpenRefusal};
-ghost use Rattle.prt_desk.specs.StoreDesk.{StandsFor, published};
+ghost use Rattle.prt_publisher.specs.StoreDesk.{StandsFor, published};
 ghost use Rattle.prt_published.specs.Line.{line_state};
 ghost use Rattle.prt_machine.specs.Closing.{LeavesNoneOpen};
 ghost use Rattle.prt_publisher.specs.Openings.{OpensOne};
@@ -13,10 +13,9 @@ use crate::cause::{Cause, cause_of, close_refused};
 use crate::database_opener::{DatabaseOpener, Wanted};
 use crate::telling::tell;
 use prt_args::{FAULT, Fault, report};
-use prt_desk::StoreDesk;
 use prt_grace::Domain;
 use prt_program::{Refusal, cause_message, log_message};
-use prt_publisher::{Phase, Publisher, publisher_over};
+use prt_publisher::{Phase, Publisher, StoreDesk, publisher_over};
 use sqlite::{Alter, Connection};
 use std::alloc::Global;
 use std::io::Write;

@@ -1,5 +1,6 @@
 -- Boxes of packets: ranges of sources, interfaces, and blocks of marks.
-use Rattle.std.specs.Prelude.{◌≡◌, ◌⊎◌, ℕ, ◌+◌, ◌-◌, ◌*◌, ◌^◌, length, ◌<◌, ◌≤◌, Bool, true, not, ◌&&◌, if◌then◌else◌, nat_le, List, [], ◌∷◌, ◌++◌, flat_map, map, Option, Some, None, bytes_eq, count_by}
+use Rattle.std.specs.Prelude.{◌≡◌, ◌⊎◌, ℕ, ◌+◌, ◌-◌, ◌*◌, ◌^◌, length, ◌<◌, ◌≤◌, Bool, true, not, ◌&&◌, if◌then◌else◌, nat_le, List, [], ◌∷◌, ◌++◌}
+use Rattle.std.specs.Prelude.{flat_map, map, Option, Some, None, bytes_eq, count_by}
 use Rattle.std.specs.List.{list_any, AllByRecursion as Each, Contains, IsDistinct}
 use Rattle.prt_addr.specs.Word.{Word}
 use Rattle.prt_refusals.specs.declared.refusal.Refusal.{Refusal}
@@ -46,7 +47,8 @@ pub record IsBox (box : PacketBox) : Type 0 where
 -- Every packet is in exactly one box, and every rule takes all packets of a box alike.
 pub record AreBoxes (rules : List Rule) (boxes : List PacketBox) : Type 0 where
   pub once : (packet : Packet) → IsPacket packet → count_by (has_packet rules packet) boxes ≡ 1
-  pub alike : Each (λ box. (packet other : Packet) → IsPacket packet → IsPacket other → has_packet rules packet box ≡ true → has_packet rules other box ≡ true → AreTakenAlike rules packet other) boxes
+  pub alike : Each (λ box. (packet other : Packet) → IsPacket packet → IsPacket other → has_packet rules packet box ≡ true →
+      has_packet rules other box ≡ true → AreTakenAlike rules packet other) boxes
   pub each : Each IsBox boxes
 
 -- the sources at which a rule begins or ceases to match, and 0.0.0.0, each of them once
@@ -63,7 +65,8 @@ pub record AreNames (rules : List Rule) (names : List Word) : Type 0 where
 abbrev pub AreTooMany : List Rule → Type 0
 AreTooMany rules =
     (MOST_BOXES < length (mark_blocks rules))
-    ⊎ ((starts : List ℕ) × (names : List Word) × AreSourceStarts rules starts × AreNames rules names × (MOST_BOXES < length starts * (length names + 1) * length (mark_blocks rules)))
+    ⊎ ((starts : List ℕ) × (names : List Word) × AreSourceStarts rules starts × AreNames rules names
+    × (MOST_BOXES < length starts * (length names + 1) * length (mark_blocks rules)))
 
 -- why no boxes are made: memory is refused, or there would be too many
 abbrev pub IsUndivided : List Rule → Refusal → Type 0

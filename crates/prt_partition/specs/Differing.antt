@@ -28,11 +28,13 @@ holding addr routes = filter (λ (route : Route). contains route.prefix addr) ro
 
 -- a packet that none of these rules matches is matched by the same rules before and after
 abbrev pub HoldRuleChanges : List Rule → List Rule → List Rule → Type 0
-HoldRuleChanges before after rules = (packet : Packet) → list_any (λ (rule : Rule). matches rule packet) rules ≡ false → matching packet before ≡ matching packet after
+HoldRuleChanges before after rules = (packet : Packet) → list_any (λ (rule : Rule). matches rule packet) rules ≡ false →
+    matching packet before ≡ matching packet after
 
 -- an address that no prefix of these routes has is in the prefixes of the same routes before and after
 abbrev pub HoldRouteChanges : List Route → List Route → List Route → Type 0
-HoldRouteChanges before after routes = (addr : Addr) → list_any (λ (route : Route). contains route.prefix addr) routes ≡ false → holding addr before ≡ holding addr after
+HoldRouteChanges before after routes = (addr : Addr) → list_any (λ (route : Route). contains route.prefix addr) routes ≡ false →
+    holding addr before ≡ holding addr after
 
 -- none of the rules matches the packet, and no route has its destination
 pub record IsUntouched (by_rules : List Rule) (by_routes : List Route) (packet : Packet) : Type 0 where

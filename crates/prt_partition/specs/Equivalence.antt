@@ -15,7 +15,8 @@ GoesSame sameness before after packet = AreSame sameness (select before packet) 
 
 -- the first of these destinations at which the verdicts on the packet are not the same, if there is one
 abbrev pub IsFirstChange : Sameness → State → State → Packet → List ℕ → Option ℕ → Type 0
-IsFirstChange sameness before after packet starts None = (k : ℕ) → k < length starts → transition_of sameness before after (to packet (slice_index starts k)) ≡ None
+IsFirstChange sameness before after packet starts None = (k : ℕ) → k < length starts →
+    transition_of sameness before after (to packet (slice_index starts k)) ≡ None
 IsFirstChange sameness before after packet starts (Some addr) = ¬ GoesSame sameness before after (to packet addr)
 
 -- a packet of this source, interface and mark on which the verdicts are not the same; none if there is none

@@ -54,6 +54,7 @@ pub record AreDifferences (sameness : Sameness) (before after : State) (packet :
   -- what they say is so
   pub sound : Each (IsDifference sameness before after packet) differences
   -- no destination is missing
-  pub complete : (addr : ℕ) → addr < 2 ^ 32 → ¬ AreSame sameness (select before (to packet addr)) (select after (to packet addr)) → list_any (has addr) differences ≡ true
+  pub complete : (addr : ℕ) → addr < 2 ^ 32 → ¬ AreSame sameness (select before (to packet addr)) (select after (to packet addr)) →
+      list_any (has addr) differences ≡ true
   -- each ends before the next one begins
   pub rise : IsRising (λ (difference next : Difference). nat_lt difference.last.0 next.first.0) differences

@@ -38,4 +38,5 @@ transition_of sameness before after packet =
 
 -- what isn't touched goes the same way
 abbrev pub IsQuiet : State → State → Touching → Packet → Type 0
-IsQuiet before after touching packet = (addr : ℕ) → is_touched touching (to packet addr) ≡ false → select before (to packet addr) ≡ select after (to packet addr)
+IsQuiet before after touching packet = (addr : ℕ) → is_touched touching (to packet addr) ≡ false →
+    select before (to packet addr) ≡ select after (to packet addr)

@@ -63,7 +63,8 @@ fn contrasts_from(
     starts: &[u32],
 ) -> Result<Vec<Contrast>, AllocError>
     requires { CanCompare packet.now comparison.now }
-    ensures { IfOk result (λ contrasts. contrasts.items ≡ map (contrast_from sameness (before_of comparison.now) (after_of comparison.now) packet.now) starts.now) }
+    ensures { IfOk result (λ contrasts.
+        contrasts.items ≡ map (contrast_from sameness (before_of comparison.now) (after_of comparison.now) packet.now) starts.now) }
 {
     starts
         .iter()

@@ -4,7 +4,8 @@
 //! all marks. The mark of each rule splits the blocks, bit by bit, if some of their marks agree with it and others don't.
 ghost use Rattle.std.specs.Prelude.{◌≡◌, ◌⊎◌, ◌++◌, ◌<◌, ◌≤◌, IfErr, IfOk, OnOk, flat_map, length};
 ghost use Rattle.prt_refusals.specs.declared.refusal.Refusal.TheVariants.{Full, NoMemory};
-ghost use Rattle.prt_partition.specs.Marks.{AreMarkBlocks, agreeing_half, bit, differs, flipped, is_open, kept, mark_blocks, other_half, parts, parts_of, split_by};
+ghost use Rattle.prt_partition.specs.Marks.{AreMarkBlocks, agreeing_half, bit, differs, flipped, is_open, kept, mark_blocks, other_half, parts};
+ghost use Rattle.prt_partition.specs.Marks.{parts_of, split_by};
 
 use crate::limits::MOST_BOXES;
 use prt_refusals::Refusal;

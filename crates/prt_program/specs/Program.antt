@@ -43,23 +43,32 @@ streams_of input output_before output_after = record { input = input; output_bef
 
 -- what a session made of a desk: line by line, or all commands together
 abbrev pub SessionIs : (may : Mishap → Type 0) → Mode → (before after : DeskState) → (reader0 reader writer0 writer : Option (List ℕ)) → ScriptEnd → Type 0
-SessionIs may (InTurn on_refusal) before after reader0 reader writer0 writer end = RunIs request_turn (Befalls may) on_refusal before after reader0 reader writer0 writer end
+SessionIs may (InTurn on_refusal) before after reader0 reader writer0 writer end =
+    RunIs request_turn (Befalls may) on_refusal before after reader0 reader writer0 writer end
 SessionIs may Together before after reader0 reader writer0 writer end = AtomicIs may before after reader0 reader writer0 writer end
 
--- A session that begins with this state was run, and this is its exit status. After it the desk stands for something, and for nothing but what the session left.
-pub record RunsOn {X : Type 0} (stands : X → DeskState → Type 0) (may : Mishap → Type 0) (mode : Mode) (opened : State) (desk : X) (streams : Streams) (status : ℕ) : Type 0 where
+-- A session that begins with this state was run, and this is its exit status. After it the desk stands for something, and for
+-- nothing but what the session left.
+pub record RunsOn {X : Type 0} (stands : X → DeskState → Type 0) (may : Mishap → Type 0) (mode : Mode) (opened : State) (desk : X)
+    (streams : Streams) (status : ℕ) : Type 0 where
   pub reader : Option (List ℕ)
   pub end : ScriptEnd
   pub left : StandsForSome stands desk
-  pub run : (after : DeskState) → stands desk after → SessionIs may mode (settled opened) after streams.input reader streams.output_before streams.output_after end
+  pub run : (after : DeskState) → stands desk after →
+      SessionIs may mode (settled opened) after streams.input reader streams.output_before streams.output_after end
   pub status_is : status ≡ exit_status end
 
 -- the session, which began with the opened state, left this one stored
 abbrev pub SessionLeaves : (may : Mishap → Type 0) → Mode → (opened : State) → Streams → (reader : Option (List ℕ)) → ScriptEnd → (left : State) → Type 0
-SessionLeaves may mode opened streams reader end left = (after : DeskState) × SessionIs may mode (settled opened) after streams.input reader streams.output_before streams.output_after end × (after.stored ≡ left)
+SessionLeaves may mode opened streams reader end left =
+    (after : DeskState) × SessionIs may mode (settled opened) after streams.input reader streams.output_before streams.output_after end
+    × (after.stored ≡ left)
 
--- A session was run over the database at a path. The desk that was opened stood for a state that may be there, the one that was closed stands for what the session left. Each state that a later opening may find is one that the session left stored. Nothing else was done to databases.
-pub record RunsAt {D X : Type 0} (holds : D → Word → State → Type 0) (opens : D → D → Word → X → Type 0) (closed : D → D → X → Type 0) (leaves : X → State → Type 0) (stands : X → DeskState → Type 0) (keeps : X → X → Type 0) (may : Mishap → Type 0)
+-- A session was run over the database at a path. The desk that was opened stood for a state that may be there, the one that was
+-- closed stands for what the session left. Each state that a later opening may find is one that the session left stored. Nothing
+-- else was done to databases.
+pub record RunsAt {D X : Type 0} (holds : D → Word → State → Type 0) (opens : D → D → Word → X → Type 0) (closed : D → D → X → Type 0)
+    (leaves : X → State → Type 0) (stands : X → DeskState → Type 0) (keeps : X → X → Type 0) (may : Mishap → Type 0)
     (old new : D) (path : Word) (mode : Mode) (streams : Streams) (status : ℕ) : Type 0 where
   pub opened : State
   pub first : X

@@ -3,9 +3,18 @@
 use crate::databases::Databases;
 use crate::read_files::ReadFiles;
 use std::alloc::Global;
-use std::io::{IsTerminal, Write};
+use std::io::{IsTerminal, Read, Write};
 use std::marker::PhantomData;
 use std::rt::Clock;
+
+/// The standard streams of the program.
+pub trait StandardStreams {
+    type Input: Read;
+
+    type Output: Write + IsTerminal;
+
+    type Errors: Write + IsTerminal;
+}
 
 /// The types of what surrounds a run.
 pub(crate) trait Host {

@@ -11,6 +11,7 @@ mod read_files;
 
 pub use databases::Databases;
 pub use error_keeping::ErrorKeeping;
+pub use host::StandardStreams;
 pub use messages::{Messages, cause_message, complaint, log_message, question_message, shown_text};
 pub use next::Next;
 pub use prt::{buffered, exit_status, program};

@@ -1,7 +1,8 @@
 //! What is reported on standard error while a script is run.
 ghost use Rattle.std.specs.Prelude.{◌≡◌, ◌≢◌, ◌<◌, ◌∷◌, IfOk, IfSome, List, Some, codes, map, option_map, string_bytes, ℕ};
 ghost use Rattle.prt_command.specs.Reading.{words};
-ghost use Rattle.prt_program.specs.Messages.{blame, complaint, failed_call, lines_text, location, progress_message, question_message, quoted, refused_message, shown, told_word, total_message};
+ghost use Rattle.prt_program.specs.Messages.{blame, complaint, failed_call, lines_text, location, progress_message, question_message, quoted};
+ghost use Rattle.prt_program.specs.Messages.{refused_message, shown, told_word, total_message};
 ghost use Rattle.prt_args.specs.Faults.{fault_status};
 
 use crate::error_keeping::ErrorKeeping;
@@ -192,10 +193,10 @@ fn progress_message(alloc: Global, lines: u64, rate: u64) -> Result<String, Allo
 /// # Errors
 ///
 /// `AllocError`, if memory is refused.
-pub fn cause_message<P: Display, D: Display>(
+pub fn cause_message<P: Display, Q: Display>(
     alloc: Global,
     place: &P,
-    reason: &D,
+    reason: &Q,
 ) -> Result<String, AllocError> {
     format!(in alloc; "prt: {place}: {reason}\n")
 }
@@ -205,10 +206,10 @@ pub fn cause_message<P: Display, D: Display>(
 /// # Errors
 ///
 /// `AllocError`, if memory is refused.
-pub fn log_message<D: Display>(
+pub fn log_message<P: Display>(
     alloc: Global,
     path: &str,
-    reason: &D,
+    reason: &P,
 ) -> Result<String, AllocError> {
     format!(in alloc;
         "prt: {path}-wal: {reason}: the log is not in {path}, and has to stay beside it\n"
@@ -304,7 +305,7 @@ impl<'a, E: Write + Drop, K: Clock + Drop> Messages<'a, E, K> {
     }
 
     /// Keeps why a file could not be opened.
-    pub fn keep_cause<D: Display>(&mut self, path: &str, reason: &D) {
+    pub fn keep_cause<P: Display>(&mut self, path: &str, reason: &P) {
         self.cause = cause_message(self.alloc, &path, reason).ok();
     }
 
@@ -334,7 +335,7 @@ impl<'a, E: Write + Drop, K: Clock + Drop> Messages<'a, E, K> {
     }
 
     /// Reports why a commit to the database at a path failed, if one did.
-    pub fn tell_commit<D: Display>(&mut self, path: &str, failure: &Option<D>) {
+    pub fn tell_commit<P: Display>(&mut self, path: &str, failure: &Option<P>) {
         if let Some(reason) = failure {
             self.wipe();
             self.write(cause_message(self.alloc, &path, reason));
@@ -348,7 +349,7 @@ impl<'a, E: Write + Drop, K: Clock + Drop> Messages<'a, E, K> {
     }
 
     /// Reports why the log of the database at a path could not be moved into its file, if that failed.
-    pub fn tell_closing<D: Display>(&mut self, path: &str, closed: &Result<(), D>) {
+    pub fn tell_closing<P: Display>(&mut self, path: &str, closed: &Result<(), P>) {
         if let Err(reason) = closed {
             self.wipe();
             self.write(log_message(self.alloc, path, reason));

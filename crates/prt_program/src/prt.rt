@@ -5,7 +5,9 @@ ghost use Rattle.prt_refusals.specs.Opening.{IsOpenRefusal};
 ghost use Rattle.prt_refusals.specs.declared.refusal.Refusal.{Refusal};
 ghost use Rattle.prt_refusals.specs.declared.refusal.Refusal.TheVariants.{NoMemory, ReadFault};
 ghost use Rattle.prt_program.specs.Faults.{IsDatabaseFault, IsFault, IsOpening, IsScriptFault, database_of};
-ghost use Rattle.prt_program.specs.Program.{IfAsk, IfExit, IfServe, IfSubmit, IsUntouched, LeavesDatabases, LeavesInput, LeavesInputFor, Runs, RunsAt, RunsBatch, RunsCheck, RunsNothing, RunsOn, RunsOver, RunsReplay, SessionIs, exit_status, streams_of};
+ghost use Rattle.prt_program.specs.Program.{IfAsk, IfExit, IfServe, IfSubmit, IsUntouched, LeavesDatabases, LeavesInput, LeavesInputFor, Runs};
+ghost use Rattle.prt_program.specs.Program.{RunsAt, RunsBatch, RunsCheck, RunsNothing, RunsOn, RunsOver, RunsReplay, SessionIs, exit_status};
+ghost use Rattle.prt_program.specs.Program.{streams_of};
 ghost use Rattle.prt_session.specs.Open.{IsOpenOn};
 ghost use Rattle.prt_session.specs.Stands.{Explained, StandsForSome};
 ghost use Rattle.prt_version.specs.State.{State};
@@ -17,7 +19,7 @@ ghost use Rattle.prt_args.specs.declared.task.Task.TheVariants.{Submit};
 
 use crate::databases::Databases;
 use crate::error_keeping::ErrorKeeping;
-use crate::host::{Host, HostOf, RunContext};
+use crate::host::{Host, HostOf, RunContext, StandardStreams};
 use crate::messages::Messages;
 use crate::next::Next;
 use crate::read_files::ReadFiles;
@@ -65,16 +67,16 @@ fn run_in<D: Desk, R: Read, W: Write, O: Observer>(
 }
 
 /// Runs a script over a desk, and returns the exit status of the session.
-fn run_over<D: Desk, R: Read, W: Write, E: Write + Drop, K: Clock + Drop>(
+fn run_over<H: Host, D: Desk, R: Read>(
     alloc: Global,
     desk: &mut D,
     reader: &mut R,
-    output: &mut W,
+    output: &mut H::Output,
     mode: Mode,
-    messages: &mut Messages<'_, E, K>,
+    messages: &mut Messages<'_, H::Errors, H::Clock>,
 ) -> u8
     ensures run { (opened : State) → IsOpenOn D.stands desk.old opened →
-        RunsOn D.stands D.may mode opened desk.new (streams_of (R.remaining reader.old) (W.contents output.old) (W.contents output.new)) result }
+        RunsOn D.stands D.may mode opened desk.new (streams_of (R.remaining reader.old) (H.Output.contents output.old) (H.Output.contents output.new)) result }
     ensures keeps { D.keeps desk.old desk.new }
 {
     let end = run_in(alloc, desk, reader, output, mode, messages);
@@ -128,11 +130,14 @@ pub(crate) fn run_batch<H: Host, R: Read + Drop>(
     mode: Mode,
     messages: &mut Messages<'_, H::Errors, H::Clock>,
 ) -> Result<u8, Fault>
-    ensures run { IfOk result (RunsBatch (RunsAt H.Databases.holds H.Databases.opens H.Databases.closed H.Databases.leaves H.Databases.Opened.stands H.Databases.Opened.keeps H.Databases.Opened.may around.old.databases.now around.new.databases.now)
-        (option_map (λ path. path.now) database.entry) mode (streams_of (R.remaining input) (H.Output.contents around.old.output.now) (H.Output.contents around.new.output.now))) }
+    ensures run { IfOk result (RunsBatch (RunsAt H.Databases.holds H.Databases.opens H.Databases.closed H.Databases.leaves
+        H.Databases.Opened.stands H.Databases.Opened.keeps H.Databases.Opened.may around.old.databases.now around.new.databases.now)
+        (option_map (λ path. path.now) database.entry) mode
+        (streams_of (R.remaining input) (H.Output.contents around.old.output.now) (H.Output.contents around.new.output.now))) }
     ensures fault { IfErr result (IsOpening (IsDatabaseFault (option_map (λ path. path.now) database.entry))) }
     ensures unopened { option_map (λ path. path.now) database.entry ≡ None → around.new.databases.now ≡ around.old.databases.now }
-    ensures untouched { OnErr result (IsUntouched H.Databases.refuses (option_map (λ path. path.now) database.entry) around.old.databases.now around.new.databases.now) }
+    ensures untouched { OnErr result
+        (IsUntouched H.Databases.refuses (option_map (λ path. path.now) database.entry) around.old.databases.now around.new.databases.now) }
     ensures unwritten { OnErr result (H.Output.contents around.new.output.now ≡ H.Output.contents around.old.output.now) }
     ensures same { (around.new.databases.ghost_name ≡ around.old.databases.ghost_name) × (around.new.output.ghost_name ≡ around.old.output.ghost_name) }
 {
@@ -141,7 +146,14 @@ pub(crate) fn run_batch<H: Host, R: Read + Drop>(
     match database {
         Some(path) => {
             let mut desk = open_database(alloc, around.databases, path, messages)?;
-            let status = run_over(alloc, &mut desk, &mut reader, around.output, mode, messages);
+            let status = run_over::<H, _, _>(
+                alloc,
+                &mut desk,
+                &mut reader,
+                around.output,
+                mode,
+                messages,
+            );
             messages.tell_commit(path, &around.databases.failure(&desk));
             let closed = around.databases.close(desk);
             messages.tell_closing(path, &closed);
@@ -149,7 +161,7 @@ pub(crate) fn run_batch<H: Host, R: Read + Drop>(
         }
         None => {
             let mut desk = MemoryDesk::opening(alloc)?;
-            Ok(run_over(alloc, &mut desk, &mut reader, around.output, mode, messages))
+            Ok(run_over::<H, _, _>(alloc, &mut desk, &mut reader, around.output, mode, messages))
         }
     }
 }
@@ -206,12 +218,16 @@ fn run_script_of<'a, H: Host, R: Read>(
     input: &mut R,
     messages: &mut Messages<'a, H::Errors, H::Clock>,
 ) -> Result<u8, Fault>
-    ensures run { IfOk result (RunsOver (H.Files.opens around.old.files.now) H.Files.Opened.remaining (RunsBatch (RunsAt H.Databases.holds H.Databases.opens H.Databases.closed H.Databases.leaves H.Databases.Opened.stands H.Databases.Opened.keeps H.Databases.Opened.may around.old.databases.now around.new.databases.now)
-        (option_map (λ path. path.now) batch.entry.database) batch.entry.mode) (option_map (λ path. path.now) batch.entry.file) (streams_of (R.remaining input.old) (H.Output.contents around.old.output.now) (H.Output.contents around.new.output.now))) }
+    ensures run { IfOk result (RunsOver (H.Files.opens around.old.files.now) H.Files.Opened.remaining
+        (RunsBatch (RunsAt H.Databases.holds H.Databases.opens H.Databases.closed H.Databases.leaves
+        H.Databases.Opened.stands H.Databases.Opened.keeps H.Databases.Opened.may around.old.databases.now around.new.databases.now)
+        (option_map (λ path. path.now) batch.entry.database) batch.entry.mode) (option_map (λ path. path.now) batch.entry.file)
+        (streams_of (R.remaining input.old) (H.Output.contents around.old.output.now) (H.Output.contents around.new.output.now))) }
     ensures unread { LeavesInputFor (option_map (λ path. path.now) batch.entry.file) (R.remaining input.old) (R.remaining input.new) }
     ensures fault { IfErr result (IsOpening (IsScriptFault (option_map (λ path. path.now) batch.entry.database))) }
     ensures unopened { option_map (λ path. path.now) batch.entry.database ≡ None → around.new.databases.now ≡ around.old.databases.now }
-    ensures untouched { OnErr result (IsUntouched H.Databases.refuses (option_map (λ path. path.now) batch.entry.database) around.old.databases.now around.new.databases.now) }
+    ensures untouched { OnErr result
+        (IsUntouched H.Databases.refuses (option_map (λ path. path.now) batch.entry.database) around.old.databases.now around.new.databases.now) }
     ensures file_first { IfErr result (λ fault. fault ≡ Opening ReadFault → around.new.databases.now ≡ around.old.databases.now) }
     ensures unwritten { OnErr result (H.Output.contents around.new.output.now ≡ H.Output.contents around.old.output.now) }
     ensures same { (around.new.databases.ghost_name ≡ around.old.databases.ghost_name) × (around.new.output.ghost_name ≡ around.old.output.ghost_name) }
@@ -298,15 +314,25 @@ fn run_words<'a, H: Host, R: Read>(
     input: &mut R,
     messages: &mut Messages<'a, H::Errors, H::Clock>,
 ) -> Result<Next<'a>, Fault>
-    ensures run { IfOk result (IfExit (Runs (H.Files.opens around.old.files.now) H.Files.Opened.remaining (RunsAt H.Databases.holds H.Databases.opens H.Databases.closed H.Databases.leaves H.Databases.Opened.stands H.Databases.Opened.keeps H.Databases.Opened.may around.old.databases.now around.new.databases.now)
-        (invocation (arguments words.now)) (streams_of (R.remaining input.old) (H.Output.contents around.old.output.now) (H.Output.contents around.new.output.now)))) }
-    ensures serve { IfOk result (IfServe (λ serving. (invocation (arguments words.now) ≡ serve (arguments words.now)) × IsServing serving × IsServiceIn (arguments words.now) serving × (H.Output.contents around.new.output.now ≡ H.Output.contents around.old.output.now))) }
-    ensures submit { IfOk result (IfSubmit (λ submitting. IsAskedFor (arguments words.now) (invocation (arguments words.now)) (Submit submitting) × (H.Output.contents around.new.output.now ≡ H.Output.contents around.old.output.now))) }
-    ensures ask { IfOk result (IfAsk (λ asked. (invocation (arguments words.now) ≡ ask (arguments words.now)) × IsQuestionIn (arguments words.now) asked × (H.Output.contents around.new.output.now ≡ H.Output.contents around.old.output.now))) }
+    ensures run { IfOk result (IfExit (Runs (H.Files.opens around.old.files.now) H.Files.Opened.remaining
+        (RunsAt H.Databases.holds H.Databases.opens H.Databases.closed H.Databases.leaves
+        H.Databases.Opened.stands H.Databases.Opened.keeps H.Databases.Opened.may around.old.databases.now around.new.databases.now)
+        (invocation (arguments words.now))
+        (streams_of (R.remaining input.old) (H.Output.contents around.old.output.now) (H.Output.contents around.new.output.now)))) }
+    ensures serve { IfOk result (IfServe
+        (λ serving. (invocation (arguments words.now) ≡ serve (arguments words.now)) × IsServing serving
+        × IsServiceIn (arguments words.now) serving × (H.Output.contents around.new.output.now ≡ H.Output.contents around.old.output.now))) }
+    ensures submit { IfOk result (IfSubmit
+        (λ submitting. IsAskedFor (arguments words.now) (invocation (arguments words.now)) (Submit submitting)
+        × (H.Output.contents around.new.output.now ≡ H.Output.contents around.old.output.now))) }
+    ensures ask { IfOk result (IfAsk
+        (λ asked. (invocation (arguments words.now) ≡ ask (arguments words.now)) × IsQuestionIn (arguments words.now) asked
+        × (H.Output.contents around.new.output.now ≡ H.Output.contents around.old.output.now))) }
     ensures unread { LeavesInput (invocation (arguments words.now)) (R.remaining input.old) (R.remaining input.new) }
     ensures fault { IfErr result (IsFault (invocation (arguments words.now))) }
     ensures unopened { LeavesDatabases (invocation (arguments words.now)) around.old.databases.now around.new.databases.now }
-    ensures untouched { OnErr result (IsUntouched H.Databases.refuses (database_of (invocation (arguments words.now))) around.old.databases.now around.new.databases.now) }
+    ensures untouched { OnErr result
+        (IsUntouched H.Databases.refuses (database_of (invocation (arguments words.now))) around.old.databases.now around.new.databases.now) }
     ensures file_first { IfErr result (λ fault. fault ≡ Opening ReadFault → around.new.databases.now ≡ around.old.databases.now) }
     ensures unwritten { OnErr result (H.Output.contents around.new.output.now ≡ H.Output.contents around.old.output.now) }
     ensures same { (around.new.databases.ghost_name ≡ around.old.databases.ghost_name) × (around.new.output.ghost_name ≡ around.old.output.ghost_name) }
@@ -344,29 +370,29 @@ fn run_words<'a, H: Host, R: Read>(
 ///
 /// The status is 0 if nothing was refused and after help, 1 if a line was refused, and 2 for bad words. It is 3
 /// for a fault of opening, of the store, of the reader or of the writer.
-pub fn program<
-    'a,
-    F: ReadFiles + Clock,
-    D: Databases,
-    R: Read,
-    W: Write + IsTerminal,
-    E: Write + IsTerminal,
->(
+pub fn program<'a, F: ReadFiles + Clock, D: Databases, T: StandardStreams>(
     files: &F,
     databases: &mut D,
     alloc: Global,
     words: &'a [String],
-    input: &mut R,
-    output: &mut W,
-    errors: &mut E,
+    input: &mut T::Input,
+    output: &mut T::Output,
+    errors: &mut T::Errors,
 ) -> Next<'a>
-    ensures run { IfExit (λ status. Runs (F.opens files.now) F.Opened.remaining (RunsAt D.holds D.opens D.closed D.leaves D.Opened.stands D.Opened.keeps D.Opened.may databases.old databases.new)
-        (invocation (arguments words.now)) (streams_of (R.remaining input.old) (W.contents output.old) (W.contents output.new)) status
-        ⊎ RunsNothing D.refuses databases.old databases.new (invocation (arguments words.now)) (W.contents output.old) (W.contents output.new) status) result }
-    ensures serve { IfServe (λ serving. (invocation (arguments words.now) ≡ serve (arguments words.now)) × IsServing serving × IsServiceIn (arguments words.now) serving × (W.contents output.new ≡ W.contents output.old)) result }
-    ensures submit { IfSubmit (λ submitting. IsAskedFor (arguments words.now) (invocation (arguments words.now)) (Submit submitting) × (W.contents output.new ≡ W.contents output.old)) result }
-    ensures ask { IfAsk (λ asked. (invocation (arguments words.now) ≡ ask (arguments words.now)) × IsQuestionIn (arguments words.now) asked × (W.contents output.new ≡ W.contents output.old)) result }
-    ensures unread { LeavesInput (invocation (arguments words.now)) (R.remaining input.old) (R.remaining input.new) }
+    ensures run { IfExit (λ status.
+        Runs (F.opens files.now) F.Opened.remaining
+        (RunsAt D.holds D.opens D.closed D.leaves D.Opened.stands D.Opened.keeps D.Opened.may databases.old databases.new)
+        (invocation (arguments words.now)) (streams_of (T.Input.remaining input.old) (T.Output.contents output.old) (T.Output.contents output.new)) status
+        ⊎ RunsNothing D.refuses databases.old databases.new (invocation (arguments words.now)) (T.Output.contents output.old) (T.Output.contents output.new) status) result }
+    ensures serve { IfServe (λ serving.
+        (invocation (arguments words.now) ≡ serve (arguments words.now)) × IsServing serving × IsServiceIn (arguments words.now) serving
+        × (T.Output.contents output.new ≡ T.Output.contents output.old)) result }
+    ensures submit { IfSubmit (λ submitting.
+        IsAskedFor (arguments words.now) (invocation (arguments words.now)) (Submit submitting)
+        × (T.Output.contents output.new ≡ T.Output.contents output.old)) result }
+    ensures ask { IfAsk (λ asked. (invocation (arguments words.now) ≡ ask (arguments words.now)) × IsQuestionIn (arguments words.now) asked
+        × (T.Output.contents output.new ≡ T.Output.contents output.old)) result }
+    ensures unread { LeavesInput (invocation (arguments words.now)) (T.Input.remaining input.old) (T.Input.remaining input.new) }
     ensures unopened { LeavesDatabases (invocation (arguments words.now)) databases.old databases.new }
 {
     let is_terminal = errors.is_terminal();
@@ -374,7 +400,7 @@ pub fn program<
     if is_terminal {
         messages.turn_on();
     }
-    let mut around: RunContext<'_, '_, HostOf<F, D, W, &mut E, &F>> = RunContext {
+    let mut around: RunContext<'_, '_, HostOf<F, D, T::Output, &mut T::Errors, &F>> = RunContext {
         alloc,
         files,
         databases: &mut *databases,

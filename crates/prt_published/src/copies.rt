@@ -115,7 +115,7 @@ pub(crate) fn read(
 }
 
 /// Shows what is next, and returns whether it did. If it did not, what was shown still is.
-pub(crate) fn show<R: Wait>(rt: &R, mut writer: CopyWriter, next: Shown) -> (CopyWriter, bool)
+pub(crate) fn show<H: Wait>(rt: &H, mut writer: CopyWriter, next: Shown) -> (CopyWriter, bool)
     requires { next.book ≡ writer.desk.shown.value.book }
     ensures shown { MatchBool result.1 (result.0.desk.shown.value ≡ next) (result.0.desk.shown.value ≡ writer.desk.shown.value) }
     ensures knows { IsTrue result.1 → view result.0.desk.place ≡ origin_of next.book }
@@ -123,6 +123,6 @@ pub(crate) fn show<R: Wait>(rt: &R, mut writer: CopyWriter, next: Shown) -> (Cop
     let Ok(()) = writer.append(next) else {
         return (writer, false);
     };
-    let (writer, outcome) = writer.publish_as::<Shows, R>(rt);
+    let (writer, outcome) = writer.publish_as::<Shows, H>(rt);
     (writer, outcome.is_ok())
 }

@@ -70,7 +70,7 @@ impl Front {
     ///
     /// What is published is shown once more, by which the writer learns which front it is of, to inform each reader. It
     /// waits for readers that are inside the other copy; at first there are none.
-    pub fn readers<W: Wait>(&mut self, rt: &W, alloc: Global) -> Result<Vec<FrontReader>, Refusal>
+    pub fn readers<H: Wait>(&mut self, rt: &H, alloc: Global) -> Result<Vec<FrontReader>, Refusal>
         ensures same { self.new ≡ self.old }
         ensures readers { IfOk result (λ readers. (length readers.items ≡ 64) × All (λ reader. reader ≡ self.old) readers.items) }
         ensures reason { IfErr result (λ reason. reason ≡ Refusal.NoMemory) }
@@ -120,9 +120,9 @@ impl Front {
     /// readers.
     ///
     /// Err(NotPublished) if the swap is refused; then readers go on with the version that they had.
-    pub fn publish<W: Wait>(
+    pub fn publish<H: Wait>(
         &mut self,
-        rt: &W,
+        rt: &H,
         stamp: Stamp,
         command: Snapshot<Command>,
         version: Arc<Version>,
@@ -142,9 +142,9 @@ impl Front {
     /// readers.
     ///
     /// Err(NotPublished) if the swap is refused; then readers go on with the version that they had.
-    pub fn publish_all<W: Wait>(
+    pub fn publish_all<H: Wait>(
         &mut self,
-        rt: &W,
+        rt: &H,
         stamp: Stamp,
         commands: Snapshot<Vec<Command>>,
         version: Arc<Version>,
@@ -161,9 +161,9 @@ impl Front {
     }
 
     /// Publishes the version after a batch, whose commit gave the stamp, as `publish_all` does.
-    fn publish_batch<W: Wait>(
+    fn publish_batch<H: Wait>(
         &mut self,
-        rt: &W,
+        rt: &H,
         stamp: Stamp,
         batch: Batch,
         version: Arc<Version>,
@@ -197,7 +197,7 @@ impl Front {
     }
 
     /// Ends the front: it waits for readers that are inside, and none can fetch from then on.
-    pub fn end<W: Wait>(self, rt: &W) {
+    pub fn end<H: Wait>(self, rt: &H) {
         let Self {
             writer,
             word: _,

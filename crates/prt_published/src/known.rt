@@ -26,7 +26,8 @@ impl Model for Known {
 
     ghost view = { λ k. line_of k.seen.book k.seen.log };
 
-    ghost invariant = { λ k. let l = line_of k.seen.book k.seen.log in (k.seen.log ≡ entries l.base l.list) × (k.count ≡ length l.list) × IsAccepted l.base l.list };
+    ghost invariant = { λ k. let l =
+        line_of k.seen.book k.seen.log in (k.seen.log ≡ entries l.base l.list) × (k.count ≡ length l.list) × IsAccepted l.base l.list };
 }
 
 impl Known {

@@ -53,10 +53,12 @@ pub record AreNotStored {S : Type 0} (g : Ghosts S) (old : Standing (Held S)) (c
   pub why_is : why ≡ reason.StoreFailed call
   pub left : new ≡ record old { phase = Closed; commands = []; tables = new.tables }
   pub now : IsKnown g new.ours_first new.tables → IsTrue (state g new.tables).is_open → Stores (state g new.tables).now (line_state old.line)
-  pub leaves : IsKnown g new.ours_first new.tables → (state : State) → MayLeave g new.tables state → (state ≡ line_state old.line) ⊎ ((why ≡ reason.StoreFailed Commit) × (state ≡ fold (line_state old.line) commands))
+  pub leaves : IsKnown g new.ours_first new.tables → (state : State) → MayLeave g new.tables state →
+      (state ≡ line_state old.line) ⊎ ((why ≡ reason.StoreFailed Commit) × (state ≡ fold (line_state old.line) commands))
 
 -- The front refused the publication: closed, with the commands stored.
-pub record AreNotPublished {S : Type 0} (g : Ghosts S) (old : Standing (Held S)) (commands : List Command) (why : Refusal) (new : Standing (Held S)) : Type 0 where
+pub record AreNotPublished {S : Type 0} (g : Ghosts S) (old : Standing (Held S)) (commands : List Command) (why : Refusal)
+    (new : Standing (Held S)) : Type 0 where
   pub takes : TakesAll old commands
   pub why_is : why ≡ reason.NotPublished
   pub left : new ≡ record old { phase = Closed; commands = commands; tables = new.tables }
@@ -70,7 +72,8 @@ AreNotAcknowledged g old commands why new =
 abbrev pub IsNotAcknowledged : {S : Type 0} → Ghosts S → Standing (Held S) → Command → Refusal → Standing (Held S) → Type 0
 IsNotAcknowledged g old command why new = AreNotAcknowledged g old (command ∷ []) why new
 
--- the changes that the commands make of the published state ran in one transaction on the tables as they were, and what that left is committed, whatever the file
+-- the changes that the commands make of the published state ran in one transaction on the tables as they were, and what that left
+-- is committed, whatever the file
 abbrev pub HaveCommitted : {S : Type 0} → Ghosts S → Standing (Held S) → List Command → Held S → Type 0
 HaveCommitted g old commands new =
     HasDone g (MakesChanges g (changes_of (line_state old.line) commands) ((line_state old.line).count + length commands)) old.tables (state g new).committed
@@ -81,4 +84,5 @@ HasCommitted g old command new = HaveCommitted g old (command ∷ []) new
 
 -- the other tables of the file stay, if that can be seen
 abbrev pub Spares : {S : Type 0} → Ghosts S → Standing (Held S) → Standing (Held S) → Type 0
-Spares g old new = IsKnown g new.ours_first new.tables → (new.phase ≡ Closed → IsTrue (state g new.tables).is_open) → SparesOthers (state g old.tables).now (state g new.tables).now
+Spares g old new = IsKnown g new.ours_first new.tables → (new.phase ≡ Closed → IsTrue (state g new.tables).is_open) →
+    SparesOthers (state g old.tables).now (state g new.tables).now

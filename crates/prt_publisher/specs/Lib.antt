@@ -3,3 +3,7 @@ pub mod Standing
 pub mod Exits
 pub mod Step
 pub mod Openings
+pub mod Files
+pub mod StoreDesk
+pub mod Remains
+pub mod Stops

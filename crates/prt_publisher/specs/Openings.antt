@@ -29,7 +29,8 @@ pub record HasOpened {S : Type 0} (g : Ghosts S) (was made : Held S) (opened : S
   pub does : HasCleanDisk (state g made) → (adopted : Held S) × MakesAndFills g was adopted × IsUnchanged (state g adopted) (state g made)
   pub shown : HasCleanDisk (state g made) → ShowsState g made opened
   pub adopts : HasCleanDisk (state g made) → BeginsFormat2 (state g was).now.schema → Adopts (state g was).now (state g made).now × IsStored g made opened
-  pub found : HasCleanDisk (state g made) → IsTrue (state g was).is_open → (stored : State) → Spells (state g was).now.trees stored → BeginsFormat2 (state g was).now.schema × (opened ≡ stored)
+  pub found : HasCleanDisk (state g made) → IsTrue (state g was).is_open → (stored : State) → Spells (state g was).now.trees stored →
+      BeginsFormat2 (state g was).now.schema × (opened ≡ stored)
   pub lasts : Lasts g was made
 
 -- Nothing was opened. `Damaged` comes only if the file had no state, of which only files that are new, of format 1 alone,
@@ -39,7 +40,8 @@ pub record HasRefused {S : Type 0} (g : Ghosts S) (was left : Held S) (reason : 
   pub why : IsOpenRefusal reason
   pub damaged : reason ≡ Damaged → HasCleanDisk (state g left) → IsTrue (state g was).is_open → (stored : State) → HasState (state g was).now stored → ⊥
   pub other_columns : (SuitsFormat2 (state g was).now.schema → ⊥) → left ≡ was
-  pub part : HasCleanDisk (state g left) → IsTrue (state g left).is_open → BeginsFormat2 (state g was).now.schema → AdoptsPart (state g was).now (state g left).now
+  pub part : HasCleanDisk (state g left) → IsTrue (state g left).is_open → BeginsFormat2 (state g was).now.schema →
+      AdoptsPart (state g was).now (state g left).now
   pub lasts : Lasts g was left
 
 -- a connection that was found so was opened, which made it the tables of this publisher, which has accepted no command yet

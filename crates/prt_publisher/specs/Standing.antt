@@ -17,7 +17,8 @@ use Rattle.prt_version.specs.Accepted.{IsAccepted}
 use Rattle.prt_version.specs.Change.{fold}
 use Rattle.prt_version.specs.State.{State}
 
--- The phase, the published list, the commands that are under way together or, once it is closed, those that are stored and not published, whether the tables were found to be the first of their file, in format 2, and the connection to them.
+-- The phase, the published list, the commands that are under way together or, once it is closed, those that are stored and not
+-- published, whether the tables were found to be the first of their file, in format 2, and the connection to them.
 pub record Standing (T : Type 0) : Type 0 where
   pub phase : Phase
   pub line : Line
@@ -27,7 +28,8 @@ pub record Standing (T : Type 0) : Type 0 where
 
 abbrev pub standing_code : {T : Type 0} → Coded T → Coded (Standing T)
 standing_code {T} tables =
-    code_by (Phase × (Line × (List Command × (Bool × T)))) (coded× phase.the_row.coded (coded× known.the_row.coded (coded× (coded_list command.the_row.coded) (coded× coded_bool tables))))
+    code_by (Phase × (Line × (List Command × (Bool × T))))
+    (coded× phase.the_row.coded (coded× known.the_row.coded (coded× (coded_list command.the_row.coded) (coded× coded_bool tables))))
     (λ s. (s.phase, (s.line, (s.commands, (s.ours_first, s.tables)))))
     (λ p. record { phase = p.0; line = p.1.0; commands = p.1.1.0; ours_first = p.1.1.1.0; tables = p.1.1.1.1 })
     (λ _. refl)
@@ -51,7 +53,8 @@ pub record IsLeft {S : Type 0} (g : Ghosts S) (tables : Held S) (published : Sta
   pub now : IsTrue (state g tables).is_open → Stores (state g tables).now published
   pub commands : List Command
   pub accepted : IsAccepted published commands
-  pub durable : (trees : Trees) → (state g tables).may_leave trees → (stored : State) × Spells trees stored × ((stored ≡ published) ⊎ (stored ≡ fold published commands))
+  pub durable : (trees : Trees) → (state g tables).may_leave trees →
+      (stored : State) × Spells trees stored × ((stored ≡ published) ⊎ (stored ≡ fold published commands))
 
 -- what the tables hold, and what a crash leaves of them: the published state; from the commit on the one after the commands
 abbrev pub Agrees : {S : Type 0} → Ghosts S → Phase → List Command → State → Held S → Type 0

@@ -82,7 +82,8 @@ fn adopt_and_load<S: Alter + Drop>(
 ///
 /// `NoMemory`.
 fn begin(alloc: Global, version: Version) -> Result<Begun, Refusal>
-    ensures begun { IfOk result (λ begun. (arc_value begun.version ≡ version) × (begun.front.base ≡ version) × (begun.front.list ≡ []) × (begun.keeper.noted ≡ version.count)) }
+    ensures begun { IfOk result (λ begun.
+        (arc_value begun.version ≡ version) × (begun.front.base ≡ version) × (begun.front.list ≡ []) × (begun.keeper.noted ≡ version.count)) }
     ensures reason { IfErr result (λ reason. reason ≡ NoMemory) }
 {
     let (kept, noted, shown) = owners(alloc, version)?;

@@ -1,9 +1,8 @@
 //! The publisher of one database.
-ghost use Rattle.std.specs.Prelude.{◌≡◌, ◌⊎◌, ◌+◌, ◌<◌, ◌≤◌, ◌↔◌, [], ◌∷◌, All, length, IfErr, IfOk, IsErrAnd, IsTrue, None, OnErr, OnOk, true};
+ghost use Rattle.std.specs.Prelude.{◌≡◌, ◌⊎◌, ◌+◌, ◌<◌, ◌≤◌, ◌↔◌, [], ◌∷◌, All, length, IfErr, IfOk, IsTrue, None, OnErr, OnOk, true};
 ghost use Rattle.std.specs.Arc.{arc_value};
 ghost use Rattle.sqlite.specs.Held.{Held, state};
-ghost use Rattle.sqlite.specs.State.{HasCleanDisk, IsUnchanged, Survives};
-ghost use Rattle.prt_refusals.specs.Opening.{IsOpenRefusal};
+ghost use Rattle.sqlite.specs.State.{HasCleanDisk};
 ghost use Rattle.prt_refusals.specs.declared.refusal.Refusal.TheVariants.{Busy, Closed, Damaged, NoMemory, NotPublished, StoreFailed};
 ghost use Rattle.prt_refusals.specs.declared.refusal.StoreCall.{StoreCall};
 ghost use Rattle.prt_refusals.specs.declared.refusal.StoreCall.TheVariants.{Commit};
@@ -11,18 +10,16 @@ ghost use Rattle.prt_command.specs.Storable.{IsStorable};
 ghost use Rattle.prt_published.specs.Line.{grown, grown_by, line_state};
 ghost use Rattle.prt_grace.specs.Registry.{noted_by, reclaimed};
 ghost use Rattle.prt_grace.specs.declared.limits.TheConstants.{MOST_RETIRED};
-ghost use Rattle.prt_publisher.specs.Exits.{AreNotAcknowledged, AreNotChecked, AreNotPrepared, HasCommitted, HaveCommitted, IsNotAcknowledged, IsNotPrepared, Spares, Takes, TakesAll};
+ghost use Rattle.prt_publisher.specs.Exits.{AreNotAcknowledged, AreNotChecked, AreNotPrepared, HasCommitted, HaveCommitted, IsNotAcknowledged};
+ghost use Rattle.prt_publisher.specs.Exits.{IsNotPrepared, Spares, Takes, TakesAll};
+ghost use Rattle.prt_publisher.specs.Openings.{HasOpened, HasRefused};
 ghost use Rattle.prt_publisher.specs.Standing.{IsQuiet, Stands, unnoted};
 ghost use Rattle.prt_publisher.specs.Step.{AreChecked, commands_checked, phase_of};
-ghost use Rattle.prt_rows.specs.Format.{BeginsFormat2, SuitsFormat2};
-ghost use Rattle.prt_store.specs.Adopted.{Adopts, AdoptsPart, LeavesPart};
-ghost use Rattle.prt_store.specs.Exits.{HasState, IsKnown, IsStored, MayLeave, Opens, Spells};
-ghost use Rattle.prt_store.specs.Openings.{MakesAndFills};
-ghost use Rattle.prt_store.specs.Shown.{ShowsState};
+ghost use Rattle.prt_rows.specs.Format.{BeginsFormat2};
+ghost use Rattle.prt_store.specs.Exits.{IsKnown, MayLeave, Opens};
 ghost use Rattle.prt_store.specs.Stored.{Stores};
 ghost use Rattle.prt_version.specs.Accepted.{IsAccepted};
 ghost use Rattle.prt_version.specs.Change.{fold};
-ghost use Rattle.prt_version.specs.Sound.{IsSound};
 ghost use Rattle.prt_version.specs.State.{State};
 
 use crate::checked::check_all;
@@ -132,7 +129,8 @@ impl<S: Alter + Drop> Model for Publisher<S> {
 
     ghost view = { λ p. record { phase = phase_of p.step; line = p.front; commands = commands_of p.step; ours_first = p.ours_first; tables = p.store.conn } };
 
-    ghost invariant = { λ p. (arc_value p.version ≡ line_state p.front) × (p.keeper.noted + unnoted (phase_of p.step) (commands_of p.step) ≡ (arc_value p.version).count) × IsAccepted p.front.base p.front.list
+    ghost invariant = { λ p. (arc_value p.version ≡ line_state p.front)
+        × (p.keeper.noted + unnoted (phase_of p.step) (commands_of p.step) ≡ (arc_value p.version).count) × IsAccepted p.front.base p.front.list
         × IsStep (line_state p.front) p.step
         × (IsKnown S.Store p.ours_first p.store.conn → Agrees S.Store (phase_of p.step) (commands_of p.step) (line_state p.front) p.store.conn) };
 }
@@ -154,26 +152,10 @@ impl<S: Alter + Drop> Publisher<S> {
         conn: Connection<S>,
     ) -> Result<(Publisher<S>, Domain), (Refusal, Connection<S>)>
         ensures ready { IfOk result (λ made. (made.0.phase ≡ Phase.Ready) × (made.0.commands ≡ []) × (made.0.line.list ≡ [])) }
-        ensures sound { IfOk result (λ made. IsSound (line_state made.0.line)) }
-        ensures does { IfOk result (λ made. HasCleanDisk (state S.Store made.0.tables) → (adopted : Held S) × MakesAndFills S.Store conn adopted × IsUnchanged (state S.Store adopted) (state S.Store made.0.tables)) }
-        ensures shown { IfOk result (λ made. HasCleanDisk (state S.Store made.0.tables) → ShowsState S.Store made.0.tables (line_state made.0.line)) }
-        ensures reason { IfErr result (λ refused. IsOpenRefusal refused.0) }
-        ensures damaged { IfErr result (λ refused. refused.0 ≡ Damaged → HasCleanDisk (state S.Store refused.1) → IsTrue (state S.Store conn).is_open → (stored : State) →
-            HasState (state S.Store conn).now stored → ⊥) }
-        ensures other_columns { (SuitsFormat2 (state S.Store conn).now.schema → ⊥) → IsErrAnd result (λ refused. refused.1 ≡ conn) }
         ensures stands { IfOk result (λ made. Stands S.Store made.0) }
         ensures format { IfOk result (λ made. (made.0.ours_first ≡ true) ↔ BeginsFormat2 (state S.Store conn).now.schema) }
-        ensures adopts { IfOk result (λ made. IsKnown S.Store made.0.ours_first made.0.tables → Opens (state S.Store conn).now (line_state made.0.line)) }
-        ensures own { IfOk result (λ made. IsKnown S.Store made.0.ours_first made.0.tables →
-            Adopts (state S.Store conn).now (state S.Store made.0.tables).now × Stores (state S.Store made.0.tables).now (line_state made.0.line)) }
-        ensures found { IfOk result (λ made. HasCleanDisk (state S.Store made.0.tables) → IsTrue (state S.Store conn).is_open → (stored : State) →
-            Spells (state S.Store conn).now.trees stored → (made.0.ours_first ≡ true) × (line_state made.0.line ≡ stored)) }
-        ensures err { IfErr result (λ refused. HasCleanDisk (state S.Store refused.1) → IsTrue (state S.Store refused.1).is_open →
-            BeginsFormat2 (state S.Store conn).now.schema → AdoptsPart (state S.Store conn).now (state S.Store refused.1).now) }
-        ensures survives_ok { IfOk result (λ made. (HasCleanDisk (state S.Store conn) → BeginsFormat2 (state S.Store conn).now.schema) →
-            Survives (state S.Store conn) (state S.Store made.0.tables) (LeavesPart (state S.Store conn).now)) }
-        ensures crash_err { IfErr result (λ refused. (HasCleanDisk (state S.Store conn) → BeginsFormat2 (state S.Store conn).now.schema) →
-            Survives (state S.Store conn) (state S.Store refused.1) (LeavesPart (state S.Store conn).now)) }
+        ensures opened { IfOk result (λ made. HasOpened S.Store conn made.0.tables (line_state made.0.line)) }
+        ensures refused { IfErr result (λ refused. HasRefused S.Store conn refused.1 refused.0) }
     {
         let opened = match open(alloc, conn) {
             Ok(opened) => opened,
@@ -250,7 +232,7 @@ impl<S: Alter + Drop> Publisher<S> {
     /// # Errors
     ///
     /// `NoMemory`.
-    pub fn seats<W: Wait>(&mut self, rt: &W, alloc: Global) -> Result<Seats, Refusal>
+    pub fn seats<H: Wait>(&mut self, rt: &H, alloc: Global) -> Result<Seats, Refusal>
         ensures seats { IfOk result (λ seats. (seats.book ≡ self.old.line.book) × (seats.base ≡ self.old.line.base)) }
         ensures same { self.new ≡ self.old }
         ensures reason { IfErr result (λ reason. reason ≡ NoMemory) }
@@ -286,7 +268,7 @@ impl<S: Alter + Drop> Publisher<S> {
     }
 
     /// Ends its front, which waits for readers that are inside, and returns the connection, with its tables as they are.
-    pub fn end<W: Wait>(self, rt: &W) -> Connection<S>
+    pub fn end<H: Wait>(self, rt: &H) -> Connection<S>
         ensures tables { result ≡ self.tables }
         ensures stands { Stands S.Store self }
     {
@@ -404,9 +386,10 @@ impl<S: Alter + Drop> Publisher<S> {
     /// # Errors
     ///
     /// `NotPublished` if the front refuses it: it is closed, with the old version published and the commands stored.
-    pub fn show<W: Wait>(&mut self, rt: &W) -> Result<(), Refusal>
+    pub fn show<H: Wait>(&mut self, rt: &H) -> Result<(), Refusal>
         requires { self.old.phase ≡ Phase.Committed }
-        ensures ok { OnOk result ((self.new ≡ record self.old { phase = Phase.Published; line = self.new.line }) × (self.new.line ≡ grown_by self.old.line self.old.commands)) }
+        ensures ok { OnOk result ((self.new ≡ record self.old { phase = Phase.Published; line = self.new.line })
+            × (self.new.line ≡ grown_by self.old.line self.old.commands)) }
         ensures err { OnErr result (self.new ≡ record self.old { phase = Phase.Closed }) }
         ensures reason { IfErr result (λ reason. reason ≡ NotPublished) }
         ensures stands { Stands S.Store self.new }
@@ -454,9 +437,9 @@ impl<S: Alter + Drop> Publisher<S> {
     ///
     /// `Closed` exactly if it is closed; otherwise what the command is refused for; if that is nothing, `Busy` (64
     /// versions that readers may hold) or `NoMemory`. It is then as it was, and the call may be made again.
-    pub fn prepare<W: Wait>(
+    pub fn prepare<H: Wait>(
         &mut self,
-        rt: &W,
+        rt: &H,
         domain: &Domain,
         command: &Command,
     ) -> Result<(), Refusal>
@@ -476,9 +459,9 @@ impl<S: Alter + Drop> Publisher<S> {
     ///
     /// Those of `check_all`; if none is refused, `Busy` (64 versions that readers may hold) or `NoMemory`. It is then
     /// as it was, and the call may be made again.
-    pub fn prepare_all<W: Wait>(
+    pub fn prepare_all<H: Wait>(
         &mut self,
-        rt: &W,
+        rt: &H,
         domain: &Domain,
         commands: &[Command],
     ) -> Result<(), Refusal>
@@ -500,16 +483,18 @@ impl<S: Alter + Drop> Publisher<S> {
     /// # Errors
     ///
     /// `Busy` or `NoMemory`. It is then as it was.
-    fn prepare_checked<W: Wait>(
+    fn prepare_checked<H: Wait>(
         &mut self,
-        rt: &W,
+        rt: &H,
         domain: &Domain,
         checked: Checked,
     ) -> Result<(), Refusal>
         requires ready { self.old.phase ≡ Phase.Ready }
         requires checked { AreChecked (line_state self.old.line) checked }
-        ensures ok { OnOk result ((self.new ≡ record self.old { phase = Phase.Prepared; commands = commands_checked checked }) × TakesAll self.old (commands_checked checked)) }
-        ensures err { IfErr result (λ reason. (self.new ≡ self.old) × AreNotPrepared self.old.phase (line_state self.old.line) (commands_checked checked) reason) }
+        ensures ok { OnOk result ((self.new ≡ record self.old { phase = Phase.Prepared; commands = commands_checked checked })
+            × TakesAll self.old (commands_checked checked)) }
+        ensures err { IfErr result (λ reason.
+            (self.new ≡ self.old) × AreNotPrepared self.old.phase (line_state self.old.line) (commands_checked checked) reason) }
         ensures stands { Stands S.Store self.new }
     {
         let admitted = self.admit(&mut domain.lock(rt), checked);
@@ -525,9 +510,10 @@ impl<S: Alter + Drop> Publisher<S> {
     /// # Errors
     ///
     /// `NotPublished` if the front refuses it: it is closed, with the old version published and the commands stored.
-    pub fn publish<W: Wait>(&mut self, rt: &W, domain: &Domain) -> Result<Receipt, Refusal>
+    pub fn publish<H: Wait>(&mut self, rt: &H, domain: &Domain) -> Result<Receipt, Refusal>
         requires { self.old.phase ≡ Phase.Committed }
-        ensures ok { OnOk result ((self.new ≡ record self.old { phase = Phase.Ready; line = self.new.line; commands = [] }) × (self.new.line ≡ grown_by self.old.line self.old.commands)) }
+        ensures ok { OnOk result ((self.new ≡ record self.old { phase = Phase.Ready; line = self.new.line; commands = [] })
+            × (self.new.line ≡ grown_by self.old.line self.old.commands)) }
         ensures receipt { IfOk result (λ receipt. receipt ≡ self.new.line) }
         ensures err { OnErr result (self.new ≡ record self.old { phase = Phase.Closed }) }
         ensures reason { IfErr result (λ reason. reason ≡ NotPublished) }
@@ -546,16 +532,18 @@ impl<S: Alter + Drop> Publisher<S> {
     /// # Errors
     ///
     /// Those of `prepare`, `commit` and `publish`, with what each leaves.
-    pub fn submit<W: Wait>(
+    pub fn submit<H: Wait>(
         &mut self,
-        rt: &W,
+        rt: &H,
         domain: &Domain,
         command: &Command,
     ) -> Result<Receipt, Refusal>
         requires quiet { IsQuiet self.old.phase }
         requires storable { IsStorable command.now }
         ensures quiet { IsQuiet self.new.phase }
-        ensures ok { IfOk result (λ receipt. (receipt ≡ grown self.old.line command.now) × (self.new ≡ record self.old { phase = Phase.Ready; line = grown self.old.line command.now; commands = []; tables = self.new.tables })) }
+        ensures ok { IfOk result (λ receipt.
+            (receipt ≡ grown self.old.line command.now)
+            × (self.new ≡ record self.old { phase = Phase.Ready; line = grown self.old.line command.now; commands = []; tables = self.new.tables })) }
         ensures took { OnOk result (Takes self.old command.now) }
         ensures err { IfErr result (λ reason. IsNotAcknowledged S.Store self.old command.now reason self.new) }
         ensures clean { HasCleanDisk (state S.Store self.new.tables) → HasCleanDisk (state S.Store self.old.tables) }
@@ -571,9 +559,9 @@ impl<S: Alter + Drop> Publisher<S> {
     /// # Errors
     ///
     /// Those of `prepare_all`, `commit` and `publish`, with what each leaves.
-    pub fn submit_all<W: Wait>(
+    pub fn submit_all<H: Wait>(
         &mut self,
-        rt: &W,
+        rt: &H,
         domain: &Domain,
         commands: &[Command],
     ) -> Result<Receipt, Refusal>
@@ -581,7 +569,15 @@ impl<S: Alter + Drop> Publisher<S> {
         requires some { 1 ≤ length commands.now }
         requires storable { All IsStorable commands.now }
         ensures quiet { IsQuiet self.new.phase }
-        ensures ok { IfOk result (λ receipt. (receipt ≡ grown_by self.old.line commands.now) × (self.new ≡ record self.old { phase = Phase.Ready; line = grown_by self.old.line commands.now; commands = []; tables = self.new.tables })) }
+        ensures ok { IfOk result (λ receipt.
+            (receipt ≡ grown_by self.old.line commands.now)
+            × (self.new ≡ record self.old {
+              phase = Phase.Ready;
+              line = grown_by self.old.line commands.now;
+              commands = [];
+              tables =
+                  self.new.tables;
+            })) }
         ensures took { OnOk result (TakesAll self.old commands.now) }
         ensures err { IfErr result (λ reason. AreNotAcknowledged S.Store self.old commands.now reason self.new) }
         ensures clean { HasCleanDisk (state S.Store self.new.tables) → HasCleanDisk (state S.Store self.old.tables) }
@@ -602,9 +598,9 @@ impl<S: Alter + Drop> Publisher<S> {
     ///
     /// `Closed` exactly if it is closed; `Busy` and `NoMemory`, which leave it as it was; those of `commit` and `publish`,
     /// with what each leaves.
-    pub fn submit_set<W: Wait>(
+    pub fn submit_set<H: Wait>(
         &mut self,
-        rt: &W,
+        rt: &H,
         domain: &Domain,
         set: ChangeSet,
     ) -> Result<Receipt, Refusal>
@@ -612,7 +608,15 @@ impl<S: Alter + Drop> Publisher<S> {
         requires some { 1 ≤ length set.commands }
         requires base { set.base ≡ line_state self.old.line }
         ensures quiet { IsQuiet self.new.phase }
-        ensures ok { IfOk result (λ receipt. (receipt ≡ grown_by self.old.line set.commands) × (self.new ≡ record self.old { phase = Phase.Ready; line = grown_by self.old.line set.commands; commands = []; tables = self.new.tables })) }
+        ensures ok { IfOk result (λ receipt.
+            (receipt ≡ grown_by self.old.line set.commands)
+            × (self.new ≡ record self.old {
+              phase = Phase.Ready;
+              line = grown_by self.old.line set.commands;
+              commands = [];
+              tables =
+                  self.new.tables;
+            })) }
         ensures took { OnOk result (TakesAll self.old set.commands) }
         ensures err { IfErr result (λ reason. AreNotAcknowledged S.Store self.old set.commands reason self.new) }
         ensures clean { HasCleanDisk (state S.Store self.new.tables) → HasCleanDisk (state S.Store self.old.tables) }
@@ -631,16 +635,24 @@ impl<S: Alter + Drop> Publisher<S> {
     /// # Errors
     ///
     /// `Busy` and `NoMemory`, which leave it as it was; those of `commit` and `publish`, with what each leaves.
-    fn submit_checked<W: Wait>(
+    fn submit_checked<H: Wait>(
         &mut self,
-        rt: &W,
+        rt: &H,
         domain: &Domain,
         checked: Checked,
     ) -> Result<Receipt, Refusal>
         requires ready { self.old.phase ≡ Phase.Ready }
         requires checked { AreChecked (line_state self.old.line) checked }
         ensures quiet { IsQuiet self.new.phase }
-        ensures ok { IfOk result (λ receipt. (receipt ≡ grown_by self.old.line (commands_checked checked)) × (self.new ≡ record self.old { phase = Phase.Ready; line = grown_by self.old.line (commands_checked checked); commands = []; tables = self.new.tables })) }
+        ensures ok { IfOk result (λ receipt.
+            (receipt ≡ grown_by self.old.line (commands_checked checked))
+            × (self.new ≡ record self.old {
+              phase = Phase.Ready;
+              line = grown_by self.old.line (commands_checked checked);
+              commands =
+                  [];
+              tables = self.new.tables;
+            })) }
         ensures took { OnOk result (TakesAll self.old (commands_checked checked)) }
         ensures err { IfErr result (λ reason. AreNotAcknowledged S.Store self.old (commands_checked checked) reason self.new) }
         ensures clean { HasCleanDisk (state S.Store self.new.tables) → HasCleanDisk (state S.Store self.old.tables) }

@@ -2,10 +2,10 @@
 use Rattle.std.proofs.Common.{◌≡◌, ◌∙◌, ℕ, List, Bool, true, false, refl, sym, ap, subst}
 use Rattle.sqlite.specs.Held.{Held}
 use Rattle.sqlite.specs.Store.{Ghosts}
-use Rattle.prt_apply.specs.Brings.{AreAlike}
-use Rattle.prt_apply.specs.Plan.{plan}
-use Rattle.prt_apply.proofs.Room.{accepted_leaves}
 use Rattle.prt_command.specs.declared.request.Command.{Command}
+use Rattle.prt_diff.specs.Apply.Brings.{AreAlike}
+use Rattle.prt_diff.specs.Apply.Plan.{plan}
+use Rattle.prt_diff.proofs.Applying.Room.{accepted_leaves}
 use Rattle.prt_publisher.specs.Openings.{OpensOne}
 use Rattle.prt_publisher.specs.Standing.{Standing}
 use Rattle.prt_publisher.specs.declared.phase.Phase.TheVariants.{Ready}

@@ -4,9 +4,9 @@ use Rattle.std.specs.List.{list_all}
 use Rattle.std.specs.Io.KnownBytes.{Appends}
 use Rattle.sqlite.specs.Held.{Held}
 use Rattle.sqlite.specs.Store.{Ghosts}
-use Rattle.prt_claims.specs.Checking.{IsChecked, breach_line}
-use Rattle.prt_claims.specs.declared.checking.Breach.{Breach}
-use Rattle.prt_claims.specs.declared.checking.Checked.{Checked}
+use Rattle.prt_analyses.specs.Claims.Checking.{IsChecked, breach_line}
+use Rattle.prt_analyses.specs.declared.claims.checking.Breach.{Breach}
+use Rattle.prt_analyses.specs.declared.claims.checking.Checked.{Checked}
 use Rattle.prt_impact.specs.Groups.{AreGroups}
 use Rattle.prt_impact.specs.Text.{groups_text}
 use Rattle.prt_impact.specs.GroupsJson.{groups_json}
@@ -18,9 +18,9 @@ use Rattle.prt_json.specs.Fields.{json_line}
 use Rattle.prt_partition.specs.declared.sameness.Sameness.{Sameness}
 use Rattle.prt_partition.specs.declared.sameness.Sameness.TheVariants.{Outcomes, Verdicts}
 use Rattle.prt_refusals.specs.declared.on_refusal.OnRefusal.TheVariants.{Stop}
-use Rattle.prt_unused.specs.Text.{unused_text}
-use Rattle.prt_unused.specs.Unused.{AreUnused}
-use Rattle.prt_unused.specs.declared.report.Unused.{Unused}
+use Rattle.prt_analyses.specs.Unused.Text.{unused_text}
+use Rattle.prt_analyses.specs.Unused.{AreUnused}
+use Rattle.prt_analyses.specs.declared.unused.report.Unused.{Unused}
 use Rattle.prt_version.specs.State.{State}
 use Rattle.prt_args.specs.declared.analysis.AssertArgs.{AssertArgs}
 use Rattle.prt_args.specs.declared.analysis.Exactness.{Exactness}
@@ -113,7 +113,8 @@ module _ (reads : List ℕ → Type 0) (writer0 writer : Option (List ℕ)) wher
   abbrev pub IsAssertedAtMost : AssertArgs → State → Type 0
   IsAssertedAtMost asserting state =
       (writer ≡ writer0)
-      ⊎ ((text : List ℕ) × reads text × (checked : Checked) × IsChecked state text checked × IsCutOff (breaches_text asserting.is_explained state checked.breaches.items) writer0 writer)
+      ⊎ ((text : List ℕ) × reads text × (checked : Checked) × IsChecked state text checked
+      × IsCutOff (breaches_text asserting.is_explained state checked.breaches.items) writer0 writer)
 
 module _ (writer0 writer : Option (List ℕ)) where
   -- all unused rules and routes were written; with status 0 there are none
@@ -133,7 +134,8 @@ module _ {M S : Type 0} (g : Ghosts S) (by : Opener M (Held S)) (from : Sources)
   -- the tables of a source were read; if this status is 0, no line of a script was left out, except what the kernel makes itself
   abbrev pub HaveTables : Source → (left : ℕ) → State → Type 0
   HaveTables (Script file) left tables =
-      (new ≡ old) × (made : Accepted) × (text : List ℕ) × Gives from (path_of file) text × IsExecuted made text × (left ≡ DONE → AreKernels made.left.items) × (tables ≡ made.version)
+      (new ≡ old) × (made : Accepted) × (text : List ℕ) × Gives from (path_of file) text × IsExecuted made text
+      × (left ≡ DONE → AreKernels made.left.items) × (tables ≡ made.version)
   HaveTables source left tables = IsAskedOf g by from old new source (λ state. tables ≡ state)
 
   -- they were not, or memory was refused after that
@@ -143,7 +145,8 @@ module _ {M S : Type 0} (g : Ghosts S) (by : Opener M (Held S)) (from : Sources)
   -- this holds of them and of what was written; with status 0 no line of a script was left out
   abbrev pub IsFoundOf : Source → (status : ℕ) → (State → Type 0) → Type 0
   IsFoundOf (Script file) status Holds =
-      (new ≡ old) × (made : Accepted) × (text : List ℕ) × Gives from (path_of file) text × IsExecuted made text × (status ≡ DONE → AreKernels made.left.items) × Holds made.version
+      (new ≡ old) × (made : Accepted) × (text : List ℕ) × Gives from (path_of file) text × IsExecuted made text
+      × (status ≡ DONE → AreKernels made.left.items) × Holds made.version
   IsFoundOf source status Holds = IsAskedOf g by from old new source Holds
 
   -- in any case: they were not read, and nothing was written; or this holds

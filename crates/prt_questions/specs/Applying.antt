@@ -4,9 +4,9 @@ use Rattle.std.specs.Io.KnownBytes.{Appends}
 use Rattle.sqlite.specs.Held.{Held, state}
 use Rattle.sqlite.specs.State.{HasCleanDisk}
 use Rattle.sqlite.specs.Store.{Ghosts}
-use Rattle.prt_apply.specs.Brings.{AreAlike}
-use Rattle.prt_apply.specs.Plan.{plan}
 use Rattle.prt_command.specs.declared.request.Command.{Command}
+use Rattle.prt_diff.specs.Apply.Brings.{AreAlike}
+use Rattle.prt_diff.specs.Apply.Plan.{plan}
 use Rattle.prt_diff.specs.Text.{commands_text}
 use Rattle.prt_published.specs.Line.{line_state}
 use Rattle.prt_impact.specs.Groups.{AreGroups}
@@ -40,7 +40,8 @@ made_text commands = commands_text commands ++ codes "changes " ++ decimal (leng
 
 -- what a plan prints, after the packets that it sends another way if these are to be shown
 abbrev pub IsPlanText : (shows : Bool) → (found wanted : State) → List ℕ → Type 0
-IsPlanText true found wanted text = (groups : List Group) × AreGroups Outcomes found wanted groups × (text ≡ comments_of groups ++ made_text (plan found wanted))
+IsPlanText true found wanted text =
+    (groups : List Group) × AreGroups Outcomes found wanted groups × (text ≡ comments_of groups ++ made_text (plan found wanted))
 IsPlanText false found wanted text = text ≡ made_text (plan found wanted)
 
 -- ---- what is done to a database
@@ -61,7 +62,9 @@ AreStoredTogether g old commands new = ((commands ≡ []) × (new ≡ old)) ⊎ 
 -- It made the tables those that are wanted, together, and is ready: what it published is stored. Or the changes were only
 -- planned, and nothing was stored.
 abbrev pub MakesTables : {S : Type 0} {g : Ghosts S} {begun : Standing (Held S)} {last : Held S} → (is_dry_run : Bool) → State → Leaves g begun last → Type 0
-MakesTables {S} {g} {begun} false wanted left = (left.done.phase ≡ Ready) × AreAlike (line_state left.done.line) wanted × AreStoredTogether g begun (plan (line_state begun.line) wanted) left.done
+MakesTables {S} {g} {begun} false wanted left =
+    (left.done.phase ≡ Ready) × AreAlike (line_state left.done.line) wanted
+    × AreStoredTogether g begun (plan (line_state begun.line) wanted) left.done
 MakesTables {S} {g} {begun} true wanted left = left.done ≡ begun
 
 -- all that is printed of a plan was printed
@@ -81,7 +84,9 @@ Makes g shows is_dry_run wanted writer0 writer first last =
 -- or it did so in part; of changes that are only planned it stores none
 abbrev pub MakesAtMost : {S : Type 0} → Ghosts S → (shows is_dry_run : Bool) → (wanted : State) → (writer0 writer : Option (List ℕ)) → Held S → Held S → Type 0
 MakesAtMost g shows is_dry_run wanted writer0 writer first last =
-    (begun : Standing (Held _)) × OpensOne g (λ was. was ≡ first) begun × ((left : Leaves g begun last) × (is_dry_run ≡ true → left.done ≡ begun)) × IsPrintedAtMost shows (line_state begun.line) wanted writer0 writer
+    (begun : Standing (Held _)) × OpensOne g (λ was. was ≡ first) begun
+    × ((left : Leaves g begun last) × (is_dry_run ≡ true → left.done ≡ begun))
+    × IsPrintedAtMost shows (line_state begun.line) wanted writer0 writer
 
 -- which database is opened: changes that are only printed make none
 abbrev pub wanted_by : (is_dry_run : Bool) → Wanted
@@ -89,8 +94,10 @@ wanted_by true = Ours
 wanted_by false = Any
 
 -- the tables at a path were made these, and what was printed says how
-abbrev pub IsMadeAt : {M S : Type 0} → Ghosts S → Opener M (Held S) → (old new : M) → (writer0 writer : Option (List ℕ)) → (path : List ℕ) → (shows is_dry_run : Bool) → (wanted : State) → Type 0
-IsMadeAt g by old new writer0 writer path shows is_dry_run wanted = IsClosedAgain by (wanted_by is_dry_run) (Makes g shows is_dry_run wanted writer0 writer) old new path
+abbrev pub IsMadeAt : {M S : Type 0} → Ghosts S → Opener M (Held S) → (old new : M) → (writer0 writer : Option (List ℕ)) → (path : List ℕ) →
+    (shows is_dry_run : Bool) → (wanted : State) → Type 0
+IsMadeAt g by old new writer0 writer path shows is_dry_run wanted =
+    IsClosedAgain by (wanted_by is_dry_run) (Makes g shows is_dry_run wanted writer0 writer) old new path
 
 -- a server accepted the changes that make the tables that it told those that are wanted, where it takes them; or they were only planned
 abbrev pub AreMadeBy : (submits : ServerPlace → List ℕ → List ℕ → Type 0) → Option ServerPlace → (is_dry_run : Bool) → (told wanted : State) → Type 0
@@ -112,19 +119,24 @@ module _ {M S : Type 0} (g : Ghosts S) (by : Opener M (Held S)) (from : Sources)
   -- the tables of a target were made these: a server told what they were before, and accepted the changes
   abbrev pub IsAppliedTo : Target → (shows is_dry_run : Bool) → (wanted : State) → Type 0
   IsAppliedTo (Database path) shows is_dry_run wanted = IsMadeAt g by old new writer0 writer path.now shows is_dry_run wanted
-  IsAppliedTo (Server ends) shows is_dry_run wanted = (new ≡ old) × ((told : State) × from.tells ends.feed told × AreMadeBy from.submits ends.atomic is_dry_run told wanted × IsPrinted shows told wanted writer0 writer)
+  IsAppliedTo (Server ends) shows is_dry_run wanted =
+      (new ≡ old) × ((told : State) × from.tells ends.feed told × AreMadeBy from.submits ends.atomic is_dry_run told wanted
+      × IsPrinted shows told wanted writer0 writer)
 
   -- in any case
   abbrev pub IsAppliedAtMost : Target → (shows is_dry_run : Bool) → (wanted : State) → Type 0
   IsAppliedAtMost (Database path) shows is_dry_run wanted = IsMadeAtMost g by old new writer0 writer path.now shows is_dry_run wanted
-  IsAppliedAtMost (Server ends) shows is_dry_run wanted = (new ≡ old) × ((writer ≡ writer0) ⊎ ((told : State) × from.tells ends.feed told × IsPrintedAtMost shows told wanted writer0 writer))
+  IsAppliedAtMost (Server ends) shows is_dry_run wanted =
+      (new ≡ old) × ((writer ≡ writer0) ⊎ ((told : State) × from.tells ends.feed told × IsPrintedAtMost shows told wanted writer0 writer))
 
   -- the tables were made what the script makes
   abbrev pub HasApplied : ApplyArgs → Type 0
-  HasApplied applying = (made : Accepted) × IsScript (Gives from (path_of applying.file)) made × IsAppliedTo applying.target applying.has_impact applying.is_dry_run made.version
+  HasApplied applying = (made : Accepted) × IsScript (Gives from (path_of applying.file)) made
+      × IsAppliedTo applying.target applying.has_impact applying.is_dry_run made.version
 
   -- in any case: a line of the script is refused, or it can't be read, and nothing was done; or it was applied at most
   abbrev pub HasAppliedAtMost : ApplyArgs → Type 0
   HasAppliedAtMost applying =
       ((new ≡ old) × (writer ≡ writer0))
-      ⊎ ((made : Accepted) × IsScript (Gives from (path_of applying.file)) made × IsAppliedAtMost applying.target applying.has_impact applying.is_dry_run made.version)
+      ⊎ ((made : Accepted) × IsScript (Gives from (path_of applying.file)) made
+      × IsAppliedAtMost applying.target applying.has_impact applying.is_dry_run made.version)

@@ -22,6 +22,8 @@ use Rattle.prt_impact.specs.declared.group.Group.{Group}
 use Rattle.prt_import.specs.Accepted.{IsExecuted, IsExecutedOver}
 use Rattle.prt_import.specs.Imported.{IsImportOf}
 use Rattle.prt_import.specs.Lines.{lines_of}
+use Rattle.prt_import.specs.IpJson.Documents.{documents, is_json}
+use Rattle.prt_import.specs.IpJson.Listing.{listing}
 use Rattle.prt_import.specs.Listed.{listing_fault}
 use Rattle.prt_import.specs.Naming.{with_names}
 use Rattle.prt_import.specs.TableNames.{KnownNames, TableNames, names_of}
@@ -30,8 +32,6 @@ use Rattle.prt_import.specs.declared.imported.Imported.{Imported}
 use Rattle.prt_import.specs.declared.omitted_line.OmittedLine.{OmittedLine}
 use Rattle.prt_import.specs.declared.naming.Text.{Text}
 use Rattle.prt_import.specs.declared.naming.Text.TheVariants as forms
-use Rattle.prt_ip_json.specs.Documents.{documents, is_json}
-use Rattle.prt_ip_json.specs.Listing.{listing}
 use Rattle.prt_partition.specs.declared.sameness.Sameness.TheVariants.{Outcomes}
 use Rattle.prt_refusals.specs.declared.refusal.Refusal.{Refusal}
 use Rattle.prt_publisher.specs.Openings.{HasOpened}
@@ -74,7 +74,9 @@ said inquiry state = called inquiry.labels inquiry.form (names_of inquiry.names.
 
 -- what a server says to an inquiry: the answer of the tables that it told, or what it replied, with tables called as it asks
 abbrev pub IsTold : (tells : State → Type 0) → (replies : List ℕ → Type 0) → Inquiry → List ℕ → Type 0
-IsTold tells replies inquiry text = ((told : State) × tells told × (text ≡ said inquiry told)) ⊎ ((reply : List ℕ) × replies reply × (text ≡ called inquiry.labels inquiry.form (names_of inquiry.names.now) reply))
+IsTold tells replies inquiry text =
+    ((told : State) × tells told × (text ≡ said inquiry told))
+    ⊎ ((reply : List ℕ) × replies reply × (text ≡ called inquiry.labels inquiry.form (names_of inquiry.names.now) reply))
 
 -- nothing was written, or a part of this text
 abbrev pub IsCutOff : List ℕ → (writer0 writer : Option (List ℕ)) → Type 0
@@ -224,7 +226,9 @@ module _ {M S : Type 0} (g : Ghosts S) (by : Opener M (Held S)) (from : Sources)
   -- all that the state at a source says was written, and this is whole; no line of a script was left out, except what the kernel
   -- makes itself
   abbrev pub IsAnswered : Source → (says : State → List ℕ) → (IsWhole : State → Type 0) → Type 0
-  IsAnswered (Script file) says IsWhole = (new ≡ old) × (made : Accepted) × (text : List ℕ) × Gives from (path_of file) text × IsExecuted made text × AreKernels made.left.items × Appends writer0 writer (says made.version) × IsWhole made.version
+  IsAnswered (Script file) says IsWhole =
+      (new ≡ old) × (made : Accepted) × (text : List ℕ) × Gives from (path_of file) text × IsExecuted made text × AreKernels made.left.items
+      × Appends writer0 writer (says made.version) × IsWhole made.version
   IsAnswered source says IsWhole = IsAskedOf g by from old new source (λ state. Appends writer0 writer (says state) × IsWhole state)
 
   -- in any case: it was not asked, and nothing was written; or it was, and a part at most
@@ -262,8 +266,11 @@ module _ {M S : Type 0} (g : Ghosts S) (by : Opener M (Held S)) (from : Sources)
   -- what differs from a state that was found was written, or nothing differs
   abbrev pub IsShown : Fence → (found : State) → Shown → Source → Type 0
   IsShown fence found Lines source = IsAnswered g by from old new writer0 writer source (changes_text fence found) (IsWholeChange fence found)
-  IsShown fence found Impact source = IsAskedOf g by from old new source (λ state. (text : List ℕ) × IsWithImpact fence found state text × Appends writer0 writer text × IsWholeChange fence found state)
-  IsShown fence found Status source = (writer ≡ writer0) × IsAskedOf g by from old new source (λ state. (changes_text fence found state ≡ []) × IsWholeChange fence found state)
+  IsShown fence found Impact source =
+      IsAskedOf g by from old new source
+      (λ state. (text : List ℕ) × IsWithImpact fence found state text × Appends writer0 writer text × IsWholeChange fence found state)
+  IsShown fence found Status source =
+      (writer ≡ writer0) × IsAskedOf g by from old new source (λ state. (changes_text fence found state ≡ []) × IsWholeChange fence found state)
 
   -- tables were asked, or not
   abbrev pub IsAskedOrNot : Source → Type 0
@@ -286,10 +293,12 @@ module _ {M S : Type 0} (g : Ghosts S) (by : Opener M (Held S)) (from : Sources)
       × IsAnswered g by (after (rest_after file) from) old new writer0 writer source (changes_text fence found) (IsWholeChange fence found)
   HasCompared file reach Impact source =
       (found : State) × (fence : Fence) × IsWholeFenced (Gives from file) reach found fence
-      × IsAskedOf g by (after (rest_after file) from) old new source (λ state. (text : List ℕ) × IsWithImpact fence found state text × Appends writer0 writer text × IsWholeChange fence found state)
+      × IsAskedOf g by (after (rest_after file) from) old new source
+      (λ state. (text : List ℕ) × IsWithImpact fence found state text × Appends writer0 writer text × IsWholeChange fence found state)
   HasCompared file reach Status source =
       (found : State) × (fence : Fence) × IsWholeFenced (Gives from file) reach found fence
-      × (writer ≡ writer0) × IsAskedOf g by (after (rest_after file) from) old new source (λ state. (changes_text fence found state ≡ []) × IsWholeChange fence found state)
+      × (writer ≡ writer0) × IsAskedOf g by (after (rest_after file) from) old new source
+      (λ state. (changes_text fence found state ≡ []) × IsWholeChange fence found state)
 
   -- tables were asked after a listing was read, or not
   abbrev pub IsComparedOrNot : Option Word → Source → Type 0
@@ -304,5 +313,6 @@ module _ {M S : Type 0} (g : Ghosts S) (by : Opener M (Held S)) (from : Sources)
   HasComparedAtMost file reach Impact source =
       (writer ≡ writer0) × IsComparedOrNot file source
       ⊎ ((found : State) × (fence : Fence) × IsFenced (Gives from file) reach found fence
-      × IsAskedOf g by (after (rest_after file) from) old new source (λ state. (text : List ℕ) × IsWithImpact fence found state text × IsCutOff text writer0 writer))
+      × IsAskedOf g by (after (rest_after file) from) old new source
+      (λ state. (text : List ℕ) × IsWithImpact fence found state text × IsCutOff text writer0 writer))
   HasComparedAtMost file reach Status source = (writer ≡ writer0) × IsComparedOrNot file source

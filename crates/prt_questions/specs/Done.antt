@@ -7,7 +7,8 @@ use Rattle.prt_args.specs.declared.asking.Asked.{Asked}
 use Rattle.prt_args.specs.declared.asking.Asked.TheVariants.{Apply, Assert, Diff, Follow, Impact, Import, Status, Tables, Unused, Wait}
 use Rattle.prt_args.specs.declared.fault.TheConstants.{DONE}
 use Rattle.prt_args.specs.declared.server_place.ServerPlace.TheVariants.{Folder}
-use Rattle.prt_questions.specs.Analyses.{IsAsserted, IsAssertedAtMost, IsFoundAtMost, IsFoundOf, IsRehearsed, IsRehearsedAtMost, IsSearched, IsSearchedAtMost, IsUnreadable}
+use Rattle.prt_questions.specs.Analyses.{IsAsserted, IsAssertedAtMost, IsFoundAtMost, IsFoundOf, IsRehearsed, IsRehearsedAtMost, IsSearched}
+use Rattle.prt_questions.specs.Analyses.{IsSearchedAtMost, IsUnreadable}
 use Rattle.prt_questions.specs.Asking.{HasAnswered, HasAnsweredAtMost, HasCompared, HasComparedAtMost, HasFollowed, HasFollowedAtMost, IsCutOff}
 use Rattle.prt_questions.specs.Applying.{HasApplied, HasAppliedAtMost}
 use Rattle.prt_questions.specs.Importing.{HasImported, HasImportedAtMost}
@@ -25,27 +26,37 @@ module _ {M S : Type 0} (g : Ghosts S) (by : Opener M (Held S)) (from : Sources)
   IsDone (Follow following) = (new ≡ old) × HasFollowed from writer0 writer (path_of following.file) following.server following.reach
   IsDone (Wait waiting) = (new ≡ old) × (writer ≡ writer0) × from.speaks waiting.server
   IsDone (Import importing) = HasImported g by from old new writer0 writer (path_of importing.file) (path_of importing.database)
-  IsDone (Impact rehearsing) = IsFoundOf g by from old new rehearsing.source DONE (IsRehearsed (Gives (after (rest_by rehearsing.source) from) (path_of rehearsing.file)) writer0 writer rehearsing DONE)
-  IsDone (Assert asserting) = IsFoundOf g by from old new asserting.source DONE (IsAsserted (Gives (after (rest_by asserting.source) from) (path_of asserting.file)) writer0 writer asserting DONE)
+  IsDone (Impact rehearsing) = IsFoundOf g by from old new rehearsing.source DONE
+      (IsRehearsed (Gives (after (rest_by rehearsing.source) from) (path_of rehearsing.file)) writer0 writer rehearsing DONE)
+  IsDone (Assert asserting) = IsFoundOf g by from old new asserting.source DONE
+      (IsAsserted (Gives (after (rest_by asserting.source) from) (path_of asserting.file)) writer0 writer asserting DONE)
   IsDone (Unused source) = IsFoundOf g by from old new source DONE (IsSearched writer0 writer DONE)
   IsDone (Apply applying) = HasApplied g by from old new writer0 writer applying
-  IsDone (Status inspecting) = (new ≡ old) × ((said : List ℕ) × from.reports (Folder inspecting.folder) said × Appends writer0 writer (status_text inspecting.form said) × (is_closed said ≡ false))
+  IsDone (Status inspecting) = (new ≡ old)
+      × ((said : List ℕ) × from.reports (Folder inspecting.folder) said × Appends writer0 writer (status_text inspecting.form said)
+      × (is_closed said ≡ false))
 
   -- what status 1 says of a question about all packets
   abbrev pub IsFound : Asked → Type 0
-  IsFound (Impact rehearsing) = IsFoundOf g by from old new rehearsing.source REFUSED (IsRehearsed (Gives (after (rest_by rehearsing.source) from) (path_of rehearsing.file)) writer0 writer rehearsing REFUSED)
-  IsFound (Assert asserting) = IsFoundOf g by from old new asserting.source REFUSED (IsAsserted (Gives (after (rest_by asserting.source) from) (path_of asserting.file)) writer0 writer asserting REFUSED)
+  IsFound (Impact rehearsing) = IsFoundOf g by from old new rehearsing.source REFUSED
+      (IsRehearsed (Gives (after (rest_by rehearsing.source) from) (path_of rehearsing.file)) writer0 writer rehearsing REFUSED)
+  IsFound (Assert asserting) = IsFoundOf g by from old new asserting.source REFUSED
+      (IsAsserted (Gives (after (rest_by asserting.source) from) (path_of asserting.file)) writer0 writer asserting REFUSED)
   IsFound (Unused source) = IsFoundOf g by from old new source REFUSED (IsSearched writer0 writer REFUSED)
   IsFound asked = Unit {0}
 
   -- what status 2 says: a line of the claims is none, and nothing was written; no other question ends with it
   abbrev pub IsFoundUnreadable : Asked → Type 0
-  IsFoundUnreadable (Assert asserting) = IsFoundOf g by from old new asserting.source UNREADABLE (IsUnreadable (Gives (after (rest_by asserting.source) from) (path_of asserting.file)) writer0 writer)
+  IsFoundUnreadable (Assert asserting) =
+      IsFoundOf g by from old new asserting.source UNREADABLE
+      (IsUnreadable (Gives (after (rest_by asserting.source) from) (path_of asserting.file)) writer0 writer)
   IsFoundUnreadable asked = ⊥
 
   -- what status 4 says: a server takes no command any more, and all that it said of itself was written; no other question ends with it
   abbrev pub IsFoundClosed : Asked → Type 0
-  IsFoundClosed (Status inspecting) = (new ≡ old) × ((said : List ℕ) × from.reports (Folder inspecting.folder) said × Appends writer0 writer (status_text inspecting.form said) × (is_closed said ≡ true))
+  IsFoundClosed (Status inspecting) =
+      (new ≡ old) × ((said : List ℕ) × from.reports (Folder inspecting.folder) said
+      × Appends writer0 writer (status_text inspecting.form said) × (is_closed said ≡ true))
   IsFoundClosed asked = ⊥
 
   -- and what is left in any case
@@ -55,8 +66,14 @@ module _ {M S : Type 0} (g : Ghosts S) (by : Opener M (Held S)) (from : Sources)
   IsDoneAtMost (Follow following) = (new ≡ old) × HasFollowedAtMost from writer0 writer (path_of following.file) following.server following.reach
   IsDoneAtMost (Wait waiting) = (new ≡ old) × (writer ≡ writer0)
   IsDoneAtMost (Import importing) = HasImportedAtMost g by from old new writer0 writer (path_of importing.file) (path_of importing.database)
-  IsDoneAtMost (Impact rehearsing) = IsFoundAtMost g by from old new writer0 writer rehearsing.source (IsRehearsedAtMost (Gives (after (rest_by rehearsing.source) from) (path_of rehearsing.file)) writer0 writer rehearsing)
-  IsDoneAtMost (Assert asserting) = IsFoundAtMost g by from old new writer0 writer asserting.source (IsAssertedAtMost (Gives (after (rest_by asserting.source) from) (path_of asserting.file)) writer0 writer asserting)
+  IsDoneAtMost (Impact rehearsing) =
+      IsFoundAtMost g by from old new writer0 writer rehearsing.source
+      (IsRehearsedAtMost (Gives (after (rest_by rehearsing.source) from) (path_of rehearsing.file)) writer0 writer rehearsing)
+  IsDoneAtMost (Assert asserting) =
+      IsFoundAtMost g by from old new writer0 writer asserting.source
+      (IsAssertedAtMost (Gives (after (rest_by asserting.source) from) (path_of asserting.file)) writer0 writer asserting)
   IsDoneAtMost (Unused source) = IsFoundAtMost g by from old new writer0 writer source (IsSearchedAtMost writer0 writer)
   IsDoneAtMost (Apply applying) = HasAppliedAtMost g by from old new writer0 writer applying
-  IsDoneAtMost (Status inspecting) = (new ≡ old) × ((writer ≡ writer0) ⊎ ((said : List ℕ) × from.reports (Folder inspecting.folder) said × IsCutOff (status_text inspecting.form said) writer0 writer))
+  IsDoneAtMost (Status inspecting) =
+      (new ≡ old) × ((writer ≡ writer0)
+      ⊎ ((said : List ℕ) × from.reports (Folder inspecting.folder) said × IsCutOff (status_text inspecting.form said) writer0 writer))

@@ -31,4 +31,5 @@ module _ {M S : Type 0} (g : Ghosts S) (by : Opener M (Held S)) (from : Sources)
   abbrev pub HasImportedAtMost : (file database : Option Word) → Type 0
   HasImportedAtMost file database =
       ((new ≡ old) × (writer ≡ writer0))
-      ⊎ ((accepted : Accepted) × (left : List OmittedLine) × IsListing (Gives from file) left accepted × IsImportedAtMost g by old new writer0 writer database accepted)
+      ⊎ ((accepted : Accepted) × (left : List OmittedLine) × IsListing (Gives from file) left accepted
+      × IsImportedAtMost g by old new writer0 writer database accepted)

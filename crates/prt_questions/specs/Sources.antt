@@ -48,7 +48,8 @@ HasLeft rest input0 input = IfSome input0 (λ all. input ≡ Some (rest all))
 
 -- ---- servers
 
-module _ {N Stream : Type 0} (reaches : N → ServerPlace → Socket → List ℕ → Stream → Type 0) (said : Stream → Option (List ℕ)) (net : N) (place : ServerPlace) where
+module _ {N Stream : Type 0} (reaches : N → ServerPlace → Socket → List ℕ → Stream → Type 0) (said : Stream → Option (List ℕ)) (net : N)
+    (place : ServerPlace) where
   -- What a server at a place sent over a connection began with these tables.
   pub record AreTold (told : State) : Type 0 where
     pub socket : Socket
@@ -78,11 +79,14 @@ module _ {N Stream : Type 0} (reaches : N → ServerPlace → Socket → List �
   IsHeard = (socket : Socket) × (sent : List ℕ) × (stream : Stream) × reaches net place socket sent stream × IfSome (said stream) (λ all. all ≢ [])
 
 -- all that a server at a place sent over a connection for atomic scripts, over which it was sent one, is this reply
-abbrev pub IsAtomicReply : {N Stream : Type 0} → (N → ServerPlace → Socket → List ℕ → Stream → Type 0) → (Stream → Option (List ℕ)) → N → ServerPlace → (sent reply : List ℕ) → Type 0
-IsAtomicReply {N} {Stream} reaches said net place sent reply = (stream : Stream) × reaches net place Atomic sent stream × IfSome (said stream) (λ all. reply ≡ all)
+abbrev pub IsAtomicReply : {N Stream : Type 0} → (N → ServerPlace → Socket → List ℕ → Stream → Type 0) → (Stream → Option (List ℕ)) → N →
+    ServerPlace → (sent reply : List ℕ) → Type 0
+IsAtomicReply {N} {Stream} reaches said net place sent reply =
+    (stream : Stream) × reaches net place Atomic sent stream × IfSome (said stream) (λ all. reply ≡ all)
 
 -- all that a server at a place said of itself
-abbrev pub IsReport : {N Stream : Type 0} → (N → ServerPlace → Socket → List ℕ → Stream → Type 0) → (Stream → Option (List ℕ)) → N → ServerPlace → (text : List ℕ) → Type 0
+abbrev pub IsReport : {N Stream : Type 0} → (N → ServerPlace → Socket → List ℕ → Stream → Type 0) → (Stream → Option (List ℕ)) → N →
+    ServerPlace → (text : List ℕ) → Type 0
 IsReport {N} {Stream} reaches said net place text = (stream : Stream) × reaches net place Status [] stream × IfSome (said stream) (λ all. text ≡ all)
 
 -- ---- all of them
@@ -106,8 +110,20 @@ pub record Sources : Type 1 where
   -- and said this of itself
   pub reports : ServerPlace → List ℕ → Type 0
 
-abbrev pub sources_of : {F File N Stream : Type 0} → (F → List ℕ → File → Type 0) → (File → Option (List ℕ)) → F → (N → ServerPlace → Socket → List ℕ → Stream → Type 0) → (Stream → Option (List ℕ)) → N → Option (List ℕ) → Sources
-sources_of opens bytes files reaches said net input = record { files = IsFileOf opens bytes files; input = input; tells = AreTold reaches said net; feeds = AreFed reaches said net; replies = IsReply reaches said net; submits = IsAtomicReply reaches said net; speaks = IsHeard reaches said net; reports = IsReport reaches said net }
+abbrev pub sources_of : {F File N Stream : Type 0} → (F → List ℕ → File → Type 0) → (File → Option (List ℕ)) → F →
+    (N → ServerPlace → Socket → List ℕ → Stream → Type 0) → (Stream → Option (List ℕ)) → N → Option (List ℕ) → Sources
+sources_of opens bytes files reaches said net input =
+    record {
+      files = IsFileOf opens bytes files;
+      input = input;
+      tells = AreTold reaches said net;
+      feeds = AreFed reaches said net;
+      replies =
+          IsReply reaches said net;
+      submits = IsAtomicReply reaches said net;
+      speaks = IsHeard reaches said net;
+      reports = IsReport reaches said net;
+    }
 
 -- a text of a file, or of the input
 abbrev pub Gives : Sources → Option Word → List ℕ → Type 0

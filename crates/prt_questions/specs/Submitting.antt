@@ -69,7 +69,8 @@ IsQuiet end = (end.refused ≡ false) × (end.fault ≡ None)
 -- commands were sent, and the reply to them was written
 abbrev pub IsAnsweredBy : (replies : List ℕ → List ℕ → Type 0) → List Command → (writer0 writer : Option (List ℕ)) → ScriptEnd → Type 0
 IsAnsweredBy answers commands writer0 writer end =
-    (told : List Reply) × answers (submission_text commands) (replies_text told) × ((refusal : Option Refusal) × IsVerdictOf (length commands) refusal told) × EndsWith told writer0 writer end
+    (told : List Reply) × answers (submission_text commands) (replies_text told)
+    × ((refusal : Option Refusal) × IsVerdictOf (length commands) refusal told) × EndsWith told writer0 writer end
 
 -- What comes of a script that was read: nothing is sent of one that is refused or has no command; the commands of another are sent, and the reply is written.
 abbrev pub IsSent : (replies : List ℕ → List ℕ → Type 0) → CommandsRead → (writer0 writer : Option (List ℕ)) → ScriptEnd → Type 0
@@ -97,7 +98,8 @@ pub record IsScriptRead (gives : List ℕ → Type 0) (commands : List Command) 
 
 -- its refusal was written, or a part of it, and the reading ended by it
 abbrev pub IsReadOf : (gives : List ℕ → Type 0) → (writer0 writer : Option (List ℕ)) → CommandsRead → Type 0
-IsReadOf gives writer0 writer read = (refusal : Option Reply) × IsScriptRead gives read.commands.items refusal × IsRefusal refusal × EndsWith (alone refusal) writer0 writer read.end
+IsReadOf gives writer0 writer read =
+    (refusal : Option Reply) × IsScriptRead gives read.commands.items refusal × IsRefusal refusal × EndsWith (alone refusal) writer0 writer read.end
 
 module _ (from : Sources) (place : ServerPlace) where
   -- what is replied to a script: the refusal of its first refused line; nothing if it has no command; else what the server replies to all of them
@@ -105,7 +107,8 @@ module _ (from : Sources) (place : ServerPlace) where
   IsReplied (Some refused) commands told = (told ≡ refused ∷ []) × IsRefusal (Some refused)
   IsReplied None [] told = told ≡ []
   IsReplied None (command ∷ commands) told =
-      from.submits place (submission_text (command ∷ commands)) (replies_text told) × ((refusal : Option Refusal) × IsVerdictOf (length (command ∷ commands)) refusal told)
+      from.submits place (submission_text (command ∷ commands)) (replies_text told)
+      × ((refusal : Option Refusal) × IsVerdictOf (length (command ∷ commands)) refusal told)
 
   -- The script was read, and what is replied to it was written. The exit status is that of `prt batch --atomic` with these replies.
   pub record HasSubmitted (file : Option Word) (writer0 writer : Option (List ℕ)) (status : ℕ) : Type 0 where

@@ -27,7 +27,8 @@ IsInquiry sent = (line : List ℕ) × IsQueryLine line × (sent ≡ line ++ code
 
 -- these bytes of a feed begin with these tables, and the rest comes after them
 abbrev pub IsFeedBefore : (bytes rest : Option (List ℕ)) → State → Type 0
-IsFeedBefore bytes rest told = (opening : Opening) × IsOpening bytes rest opening × RowsSpell opening.number (numbered_from 1 opening.version.rules) opening.version.routes told
+IsFeedBefore bytes rest told =
+    (opening : Opening) × IsOpening bytes rest opening × RowsSpell opening.number (numbered_from 1 opening.version.rules) opening.version.routes told
 
 -- they begin with these tables
 abbrev pub IsFeedOf : Option (List ℕ) → State → Type 0

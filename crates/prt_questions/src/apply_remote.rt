@@ -1,4 +1,4 @@
-//! Tables of a server that are made what a script makes of a new database.
+//! `prt apply` over a server: gives it the tables that a script describes.
 ghost use Rattle.std.specs.Prelude.{◌≡◌, ◌⊎◌, IfOk};
 ghost use Rattle.prt_questions.specs.Applying.{AreMadeBy, IsPrinted, IsPrintedAtMost};
 ghost use Rattle.prt_questions.specs.Sources.{AreTold, IsAtomicReply};
@@ -31,7 +31,7 @@ const NO_PLACE: &str = "no place is named where the server takes atomic scripts"
 /// # Errors
 ///
 /// Why the connection failed, or what the server said. Nothing is sent to what takes no atomic scripts.
-fn send<N: LocalNet>(
+fn submit_in_parts<N: LocalNet>(
     rt: &N,
     alloc: Global,
     place: &ServerPlace<'_>,
@@ -84,7 +84,7 @@ fn tell_made<E: Write>(alloc: Global, place: &ServerPlace<'_>, made: usize, erro
 
 /// Has a server make changes that were planned over its tables of this number. If it doesn't make all of them, it is reported
 /// how many it made.
-fn have_made<N: LocalNet, E: Write>(
+fn submit_planned<N: LocalNet, E: Write>(
     rt: &N,
     alloc: Global,
     place: &ServerPlace<'_>,
@@ -92,11 +92,12 @@ fn have_made<N: LocalNet, E: Write>(
     planned: Planned,
     errors: &mut E,
 ) -> Tried
-    ensures { IsTriedWith (AreMadeInParts (IsAtomicReply N.reaches N.Stream.remaining rt.now place.now) number planned.commands.items) planned.text.items result }
+    ensures { IsTriedWith (AreMadeInParts
+        (IsAtomicReply N.reaches N.Stream.remaining rt.now place.now) number planned.commands.items) planned.text.items result }
 {
     let Planned { commands, text } = planned;
     let mut made = 0;
-    match send(rt, alloc, place, number, commands.as_slice(), &mut made) {
+    match submit_in_parts(rt, alloc, place, number, commands.as_slice(), &mut made) {
         Ok(Made::All) => Tried::Text(text),
         Ok(Made::Moved) => {
             tell_made(alloc, place, made, errors);
@@ -120,7 +121,9 @@ fn try_once<N: LocalNet, W: Write, E: Write>(
     output: &mut W,
     errors: &mut E,
 ) -> Tried
-    ensures text { IsTriedFor (AreTold N.reaches N.Stream.remaining rt.now ends.now.feed) (λ told. AreMadeBy (IsAtomicReply N.reaches N.Stream.remaining rt.now) ends.now.atomic manner.is_dry_run told wanted.now) manner.shows_impact wanted.now result }
+    ensures text { IsTriedFor (AreTold N.reaches N.Stream.remaining rt.now ends.now.feed)
+        (λ told. AreMadeBy
+        (IsAtomicReply N.reaches N.Stream.remaining rt.now) ends.now.atomic manner.is_dry_run told wanted.now) manner.shows_impact wanted.now result }
     ensures unwritten { W.contents output.new ≡ W.contents output.old }
 {
     let found = match read_tables(rt, alloc, &ends.feed) {
@@ -140,7 +143,7 @@ fn try_once<N: LocalNet, W: Write, E: Write>(
         return Tried::Text(planned.text);
     }
     match &ends.atomic {
-        Some(place) => have_made(rt, alloc, place, found.number(), planned, errors),
+        Some(place) => submit_planned(rt, alloc, place, found.number(), planned, errors),
         None => {
             tell(cause_message(alloc, &ends.feed, &NO_PLACE), errors);
             Tried::Failed(FAULT)
@@ -162,8 +165,13 @@ pub(crate) fn apply_to_server<N: LocalNet, W: Write, E: Write>(
     errors: &mut E,
 ) -> u8
     ensures status { (result ≡ DONE) ⊎ (result ≡ FAULT) }
-    ensures whole { result ≡ DONE → (told : State) × AreTold N.reaches N.Stream.remaining rt.now ends.now.feed told × AreMadeBy (IsAtomicReply N.reaches N.Stream.remaining rt.now) ends.now.atomic manner.is_dry_run told wanted.now × IsPrinted manner.shows_impact told wanted.now (W.contents output.old) (W.contents output.new) }
-    ensures part { (W.contents output.new ≡ W.contents output.old) ⊎ ((told : State) × AreTold N.reaches N.Stream.remaining rt.now ends.now.feed told × IsPrintedAtMost manner.shows_impact told wanted.now (W.contents output.old) (W.contents output.new)) }
+    ensures whole { result ≡ DONE →
+        (told : State) × AreTold N.reaches N.Stream.remaining rt.now ends.now.feed told
+        × AreMadeBy (IsAtomicReply N.reaches N.Stream.remaining rt.now) ends.now.atomic manner.is_dry_run told wanted.now
+        × IsPrinted manner.shows_impact told wanted.now (W.contents output.old) (W.contents output.new) }
+    ensures part { (W.contents output.new ≡ W.contents output.old)
+        ⊎ ((told : State) × AreTold N.reaches N.Stream.remaining rt.now ends.now.feed told
+        × IsPrintedAtMost manner.shows_impact told wanted.now (W.contents output.old) (W.contents output.new)) }
 {
     for _ in 0..TRIES {
         match try_once(rt, alloc, ends, wanted, manner, output, errors) {

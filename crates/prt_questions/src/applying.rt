@@ -1,12 +1,13 @@
-//! Tables that are made what a script makes of a new database.
+//! `prt apply` over a database: gives it the tables that a script describes.
 ghost use Rattle.std.specs.Prelude.{◌≡◌, ◌⊎◌, All, IfErr, IfOk, OnOk, false, true};
-ghost use Rattle.prt_apply.specs.Brings.{AreAlike};
-ghost use Rattle.prt_apply.specs.Plan.{plan};
 ghost use Rattle.prt_command.specs.Storable.{IsStorable};
+ghost use Rattle.prt_diff.specs.Apply.Brings.{AreAlike};
+ghost use Rattle.prt_diff.specs.Apply.Plan.{plan};
 ghost use Rattle.prt_published.specs.Line.{line_state};
 ghost use Rattle.prt_publisher.specs.Standing.{IsQuiet};
 ghost use Rattle.prt_publisher.specs.declared.phase.Phase.TheVariants.{Ready};
-ghost use Rattle.prt_questions.specs.Applying.{AreStoredTogether, HasApplied, HasAppliedAtMost, IsMadeAt, IsMadeAtMost, IsPrinted, IsPrintedAtMost, IsScript, wanted_by};
+ghost use Rattle.prt_questions.specs.Applying.{AreStoredTogether, HasApplied, HasAppliedAtMost, IsMadeAt, IsMadeAtMost, IsPrinted, IsPrintedAtMost};
+ghost use Rattle.prt_questions.specs.Applying.{IsScript, wanted_by};
 ghost use Rattle.prt_questions.specs.Sources.{IsFileOf, IsRead, path_of, sources_of};
 ghost use Rattle.prt_version.specs.Accepted.{IsAccepted};
 ghost use Rattle.prt_version.specs.Change.{fold};
@@ -95,7 +96,7 @@ fn report_unmade<S: Alter + Drop, W: Write, E: Write>(
 }
 
 /// Makes the tables of a publisher those that are wanted, and prints how. Returns the exit status.
-fn make<H: Host>(
+fn apply_to_publisher<H: Host>(
     rt: &H::Net,
     alloc: Global,
     path: &str,
@@ -112,9 +113,12 @@ fn make<H: Host>(
     ensures file { publisher.new.ours_first ≡ publisher.old.ours_first }
     ensures dry { manner.is_dry_run ≡ true → publisher.new ≡ publisher.old }
     ensures made { result ≡ DONE → manner.is_dry_run ≡ false → (publisher.new.phase ≡ Ready) × AreAlike (line_state publisher.new.line) wanted.now }
-    ensures together { result ≡ DONE → manner.is_dry_run ≡ false → AreStoredTogether H.Store.Store publisher.old (plan (line_state publisher.old.line) wanted.now) publisher.new }
-    ensures whole { result ≡ DONE → IsPrinted manner.shows_impact (line_state publisher.old.line) wanted.now (H.Output.contents output.old) (H.Output.contents output.new) }
-    ensures part { IsPrintedAtMost manner.shows_impact (line_state publisher.old.line) wanted.now (H.Output.contents output.old) (H.Output.contents output.new) }
+    ensures together { result ≡ DONE → manner.is_dry_run ≡ false →
+        AreStoredTogether H.Store.Store publisher.old (plan (line_state publisher.old.line) wanted.now) publisher.new }
+    ensures whole { result ≡ DONE →
+        IsPrinted manner.shows_impact (line_state publisher.old.line) wanted.now (H.Output.contents output.old) (H.Output.contents output.new) }
+    ensures part { IsPrintedAtMost manner.shows_impact (line_state publisher.old.line) wanted.now (H.Output.contents output.old)
+        (H.Output.contents output.new) }
 {
     let found = publisher.published();
     let Planned { commands, text } = match plan_changes(alloc, found, wanted, manner.shows_impact) {
@@ -152,8 +156,11 @@ pub(crate) fn apply_to_database<H: Host>(
     errors: &mut H::Errors,
 ) -> u8
     ensures status { (result ≡ DONE) ⊎ (result ≡ FAULT) }
-    ensures whole { result ≡ DONE → IsMadeAt H.Store.Store H.Opener.DatabaseOpener databases.old.machine databases.new.machine (H.Output.contents output.old) (H.Output.contents output.new) path.now manner.shows_impact manner.is_dry_run wanted.now }
-    ensures at_most { IsMadeAtMost H.Store.Store H.Opener.DatabaseOpener databases.old.machine databases.new.machine (H.Output.contents output.old) (H.Output.contents output.new) path.now manner.shows_impact manner.is_dry_run wanted.now }
+    ensures whole { result ≡ DONE →
+        IsMadeAt H.Store.Store H.Opener.DatabaseOpener databases.old.machine databases.new.machine (H.Output.contents output.old)
+        (H.Output.contents output.new) path.now manner.shows_impact manner.is_dry_run wanted.now }
+    ensures at_most { IsMadeAtMost H.Store.Store H.Opener.DatabaseOpener databases.old.machine databases.new.machine
+        (H.Output.contents output.old) (H.Output.contents output.new) path.now manner.shows_impact manner.is_dry_run wanted.now }
 {
     let rt = databases.rt;
     let opened = open_publisher(&mut databases.machine, alloc, path, wanted_by(manner));
@@ -161,7 +168,7 @@ pub(crate) fn apply_to_database<H: Host>(
         Ok(made) => made,
         Err(refused) => return report_unopened(alloc, path, refused, output, errors),
     };
-    let status = make::<H>(
+    let status = apply_to_publisher::<H>(
         &rt,
         alloc,
         path,
@@ -190,7 +197,8 @@ fn read_script<H: Streams>(
     output: &mut H::Output,
     errors: &mut H::Errors,
 ) -> Result<Accepted, u8>
-    ensures script { IfOk result (IsScript (IsRead (IsFileOf H.Files.opens H.Files.Opened.remaining files.now) (H.Input.remaining input.old) (path_of file.entry))) }
+    ensures script { IfOk result (IsScript
+        (IsRead (IsFileOf H.Files.opens H.Files.Opened.remaining files.now) (H.Input.remaining input.old) (path_of file.entry))) }
     ensures fault { IfErr result (λ status. (status ≡ REFUSED) ⊎ (status ≡ FAULT)) }
     ensures unwritten { H.Output.contents output.new ≡ H.Output.contents output.old }
 {
@@ -218,8 +226,15 @@ pub(crate) fn apply<H: Host>(
     errors: &mut H::Errors,
 ) -> u8
     ensures status { (result ≡ DONE) ⊎ ((result ≡ REFUSED) ⊎ (result ≡ FAULT)) }
-    ensures whole { result ≡ DONE → HasApplied H.Store.Store H.Opener.DatabaseOpener (sources_of H.Files.opens H.Files.Opened.remaining databases.old.files.now H.Net.reaches H.Net.Stream.remaining databases.old.rt (H.Input.remaining input.old)) databases.old.machine databases.new.machine (H.Output.contents output.old) (H.Output.contents output.new) applying.now }
-    ensures at_most { HasAppliedAtMost H.Store.Store H.Opener.DatabaseOpener (sources_of H.Files.opens H.Files.Opened.remaining databases.old.files.now H.Net.reaches H.Net.Stream.remaining databases.old.rt (H.Input.remaining input.old)) databases.old.machine databases.new.machine (H.Output.contents output.old) (H.Output.contents output.new) applying.now }
+    ensures whole { result ≡ DONE →
+        HasApplied H.Store.Store H.Opener.DatabaseOpener
+        (sources_of H.Files.opens H.Files.Opened.remaining databases.old.files.now H.Net.reaches H.Net.Stream.remaining databases.old.rt
+        (H.Input.remaining input.old)) databases.old.machine databases.new.machine (H.Output.contents output.old)
+        (H.Output.contents output.new) applying.now }
+    ensures at_most { HasAppliedAtMost H.Store.Store H.Opener.DatabaseOpener
+        (sources_of H.Files.opens H.Files.Opened.remaining databases.old.files.now H.Net.reaches H.Net.Stream.remaining databases.old.rt
+        (H.Input.remaining input.old)) databases.old.machine databases.new.machine (H.Output.contents output.old)
+        (H.Output.contents output.new) applying.now }
 {
     let read = read_script::<H>(databases.files, alloc, applying.file, input, output, errors);
     let made = match read {

@@ -3,7 +3,8 @@ ghost use Rattle.std.specs.Prelude.{◌≡◌, ◌⊎◌, IfErr, IfOk, IfSome, L
 ghost use Rattle.std.specs.Io.KnownBytes.{Appends};
 ghost use Rattle.prt_ask.specs.Answers.{is_whole_change};
 ghost use Rattle.prt_ask.specs.Questions.{question};
-ghost use Rattle.prt_questions.specs.Asking.{HasAnswered, HasAnsweredAtMost, IsAnswered, IsAnsweredAtMost, IsAskedAt, IsCutOff, IsNotOpened, IsQuery, IsReplied, IsRepliedAtMost, IsTold, IsWholeAnswer, called, said};
+ghost use Rattle.prt_questions.specs.Asking.{HasAnswered, HasAnsweredAtMost, IsAnswered, IsAnsweredAtMost, IsAskedAt, IsCutOff, IsNotOpened, IsQuery};
+ghost use Rattle.prt_questions.specs.Asking.{IsReplied, IsRepliedAtMost, IsTold, IsWholeAnswer, called, said};
 ghost use Rattle.prt_questions.specs.LeftOut.{AreKernels};
 ghost use Rattle.prt_import.specs.Accepted.{IsExecuted};
 ghost use Rattle.prt_import.specs.TableNames.{names_of};
@@ -131,7 +132,8 @@ fn write_answer<P: Display, W: Write, E: Write>(
     errors: &mut E,
 ) -> u8
     ensures status { (result ≡ DONE) ⊎ ((result ≡ REFUSED) ⊎ (result ≡ FAULT)) }
-    ensures whole { (text : List ℕ) → IfOk answered (λ made. made.text.items ≡ text) → result ≡ DONE → Appends (W.contents output.old) (W.contents output.new) text }
+    ensures whole { (text : List ℕ) → IfOk answered (λ made. made.text.items ≡ text) → result ≡ DONE →
+        Appends (W.contents output.old) (W.contents output.new) text }
     ensures part { (text : List ℕ) → IfOk answered (λ made. made.text.items ≡ text) → IsCutOff text (W.contents output.old) (W.contents output.new) }
     ensures change { result ≡ DONE → (made : Answered) × (answered ≡ Ok made) × (is_whole_change made.notes ≡ true) }
 {
@@ -151,10 +153,14 @@ fn ask_database<H: Host, W: Write>(
     errors: &mut H::Errors,
 ) -> u8
     ensures status { (result ≡ DONE) ⊎ ((result ≡ REFUSED) ⊎ (result ≡ FAULT)) }
-    ensures whole { result ≡ DONE → IsAskedAt H.Store.Store H.Opener.DatabaseOpener databases.old.machine databases.new.machine path.now (λ state. Appends (W.contents output.old) (W.contents output.new) (said inquiry.now state) × IsWholeAnswer inquiry.now.question state) }
+    ensures whole { result ≡ DONE →
+        IsAskedAt H.Store.Store H.Opener.DatabaseOpener databases.old.machine databases.new.machine path.now
+        (λ state. Appends (W.contents output.old) (W.contents output.new) (said inquiry.now state) × IsWholeAnswer inquiry.now.question state) }
     ensures there { result ≡ DONE → H.Opener.is_there databases.old.machine path.now }
-    ensures at_most { (IsNotOpened H.Store.Store H.Opener.DatabaseOpener databases.old.machine databases.new.machine Wanted.Ours path.now × (W.contents output.new ≡ W.contents output.old))
-        ⊎ IsAskedAt H.Store.Store H.Opener.DatabaseOpener databases.old.machine databases.new.machine path.now (λ state. IsCutOff (said inquiry.now state) (W.contents output.old) (W.contents output.new)) }
+    ensures at_most { (IsNotOpened H.Store.Store H.Opener.DatabaseOpener databases.old.machine databases.new.machine Wanted.Ours path.now
+        × (W.contents output.new ≡ W.contents output.old))
+        ⊎ IsAskedAt H.Store.Store H.Opener.DatabaseOpener databases.old.machine databases.new.machine path.now
+        (λ state. IsCutOff (said inquiry.now state) (W.contents output.old) (W.contents output.new)) }
 {
     let rt = databases.rt;
     let opened = open_desk(&mut databases.machine, rt, alloc, path, Wanted::Ours);
@@ -167,8 +173,8 @@ fn ask_database<H: Host, W: Write>(
     write_answer(alloc, &path, answered, output, errors)
 }
 
-/// Asks the server whose feed is at a place, and returns the exit status.
-fn ask_server<N: LocalNet, W: Write, E: Write>(
+/// Asks the tables that a server sends at a place, and returns the exit status.
+fn ask_by_tables<N: LocalNet, W: Write, E: Write>(
     rt: &N,
     alloc: Global,
     place: &ServerPlace<'_>,
@@ -177,8 +183,12 @@ fn ask_server<N: LocalNet, W: Write, E: Write>(
     errors: &mut E,
 ) -> u8
     ensures status { (result ≡ DONE) ⊎ ((result ≡ REFUSED) ⊎ (result ≡ FAULT)) }
-    ensures whole { result ≡ DONE → (told : State) × AreTold N.reaches N.Stream.remaining rt.now place.now told × Appends (W.contents output.old) (W.contents output.new) (said inquiry.now told) × IsWholeAnswer inquiry.now.question told }
-    ensures part { (W.contents output.new ≡ W.contents output.old) ⊎ ((told : State) × AreTold N.reaches N.Stream.remaining rt.now place.now told × IsCutOff (said inquiry.now told) (W.contents output.old) (W.contents output.new)) }
+    ensures whole { result ≡ DONE →
+        (told : State) × AreTold N.reaches N.Stream.remaining rt.now place.now told
+        × Appends (W.contents output.old) (W.contents output.new) (said inquiry.now told) × IsWholeAnswer inquiry.now.question told }
+    ensures part { (W.contents output.new ≡ W.contents output.old)
+        ⊎ ((told : State) × AreTold N.reaches N.Stream.remaining rt.now place.now told
+        × IsCutOff (said inquiry.now told) (W.contents output.old) (W.contents output.new)) }
 {
     match read_tables(rt, alloc, place) {
         Ok(version) => {
@@ -205,9 +215,9 @@ fn said_by(alloc: Global, told: Told, inquiry: &Inquiry<'_>) -> Result<Vec<u8>, 
     }
 }
 
-/// Sends a server the line of an inquiry, which is a query, and returns the exit status. A session replies to it; a feed tells its tables,
-/// and they are asked.
-fn ask_session<N: LocalNet, W: Write, E: Write>(
+/// Sends a server the line of an inquiry, which is a query, and returns the exit status. A session replies to it. A feed sends
+/// its tables, and they are asked.
+fn ask_by_line<N: LocalNet, W: Write, E: Write>(
     rt: &N,
     alloc: Global,
     place: &ServerPlace<'_>,
@@ -218,8 +228,14 @@ fn ask_session<N: LocalNet, W: Write, E: Write>(
 ) -> u8
     requires { IsQueryLine line.now }
     ensures status { (result ≡ DONE) ⊎ ((result ≡ REFUSED) ⊎ (result ≡ FAULT)) }
-    ensures whole { result ≡ DONE → (text : List ℕ) × IsTold (AreTold N.reaches N.Stream.remaining rt.now place.now) (IsReply N.reaches N.Stream.remaining rt.now place.now line.now) inquiry.now text × Appends (W.contents output.old) (W.contents output.new) text }
-    ensures part { (W.contents output.new ≡ W.contents output.old) ⊎ ((text : List ℕ) × IsTold (AreTold N.reaches N.Stream.remaining rt.now place.now) (IsReply N.reaches N.Stream.remaining rt.now place.now line.now) inquiry.now text × IsCutOff text (W.contents output.old) (W.contents output.new)) }
+    ensures whole { result ≡ DONE →
+        (text : List ℕ) × IsTold (AreTold N.reaches N.Stream.remaining rt.now place.now)
+        (IsReply N.reaches N.Stream.remaining rt.now place.now line.now) inquiry.now text
+        × Appends (W.contents output.old) (W.contents output.new) text }
+    ensures part { (W.contents output.new ≡ W.contents output.old)
+        ⊎ ((text : List ℕ) × IsTold (AreTold N.reaches N.Stream.remaining rt.now place.now)
+        (IsReply N.reaches N.Stream.remaining rt.now place.now line.now) inquiry.now text
+        × IsCutOff text (W.contents output.old) (W.contents output.new)) }
 {
     let told = match ask_line(rt, alloc, place, line) {
         Ok(told) => told,
@@ -235,7 +251,7 @@ fn ask_session<N: LocalNet, W: Write, E: Write>(
 }
 
 /// Finds the server that is queried by a line: its session or its feed.
-fn session_of<'a>(source: &Source<'a>, question: &Question<'_>) -> Option<ServerPlace<'a>>
+fn server_for_line<'a>(source: &Source<'a>, question: &Question<'_>) -> Option<ServerPlace<'a>>
     ensures { IfSome result (λ place. (source.now ≡ Server place) × IsQuery question.now) }
 {
     match (source, question) {
@@ -292,8 +308,15 @@ fn ask_script<H: Streams, W: Write>(
     errors: &mut H::Errors,
 ) -> u8
     ensures status { (result ≡ DONE) ⊎ ((result ≡ REFUSED) ⊎ (result ≡ FAULT)) }
-    ensures whole { result ≡ DONE → (made : Accepted) × (text : List ℕ) × IsRead (IsFileOf H.Files.opens H.Files.Opened.remaining files.now) (H.Input.remaining input.old) (path_of file.entry) text × IsExecuted made text × AreKernels made.left.items × Appends (W.contents output.old) (W.contents output.new) (said inquiry.now made.version) × IsWholeAnswer inquiry.now.question made.version }
-    ensures part { (W.contents output.new ≡ W.contents output.old) ⊎ ((made : Accepted) × (text : List ℕ) × IsRead (IsFileOf H.Files.opens H.Files.Opened.remaining files.now) (H.Input.remaining input.old) (path_of file.entry) text × IsExecuted made text × IsCutOff (said inquiry.now made.version) (W.contents output.old) (W.contents output.new)) }
+    ensures whole { result ≡ DONE →
+        (made : Accepted) × (text : List ℕ)
+        × IsRead (IsFileOf H.Files.opens H.Files.Opened.remaining files.now) (H.Input.remaining input.old) (path_of file.entry) text
+        × IsExecuted made text × AreKernels made.left.items
+        × Appends (W.contents output.old) (W.contents output.new) (said inquiry.now made.version) × IsWholeAnswer inquiry.now.question made.version }
+    ensures part { (W.contents output.new ≡ W.contents output.old)
+        ⊎ ((made : Accepted) × (text : List ℕ)
+        × IsRead (IsFileOf H.Files.opens H.Files.Opened.remaining files.now) (H.Input.remaining input.old) (path_of file.entry) text
+        × IsExecuted made text × IsCutOff (said inquiry.now made.version) (W.contents output.old) (W.contents output.new)) }
 {
     let script = match read_whole::<H, _>(files, alloc, file, input, output, errors) {
         Ok(script) => script,
@@ -324,12 +347,26 @@ pub(crate) fn ask_source<H: Host, W: Write>(
     errors: &mut H::Errors,
 ) -> u8
     ensures status { (result ≡ DONE) ⊎ ((result ≡ REFUSED) ⊎ (result ≡ FAULT)) }
-    ensures whole { result ≡ DONE → IsAnswered H.Store.Store H.Opener.DatabaseOpener (sources_of H.Files.opens H.Files.Opened.remaining databases.old.files.now H.Net.reaches H.Net.Stream.remaining databases.old.rt (H.Input.remaining input.old)) databases.old.machine databases.new.machine (W.contents output.old) (W.contents output.new) source.now (said inquiry.now) (IsWholeAnswer inquiry.now.question) }
-    ensures at_most { IsAnsweredAtMost H.Store.Store H.Opener.DatabaseOpener (sources_of H.Files.opens H.Files.Opened.remaining databases.old.files.now H.Net.reaches H.Net.Stream.remaining databases.old.rt (H.Input.remaining input.old)) databases.old.machine databases.new.machine (W.contents output.old) (W.contents output.new) source.now (said inquiry.now) }
+    ensures whole { result ≡ DONE →
+        IsAnswered H.Store.Store H.Opener.DatabaseOpener
+        (sources_of H.Files.opens H.Files.Opened.remaining databases.old.files.now H.Net.reaches H.Net.Stream.remaining databases.old.rt
+        (H.Input.remaining input.old)) databases.old.machine databases.new.machine (W.contents output.old)
+        (W.contents output.new) source.now (said inquiry.now) (IsWholeAnswer inquiry.now.question) }
+    ensures at_most { IsAnsweredAtMost H.Store.Store H.Opener.DatabaseOpener
+        (sources_of H.Files.opens H.Files.Opened.remaining databases.old.files.now H.Net.reaches H.Net.Stream.remaining databases.old.rt
+        (H.Input.remaining input.old)) databases.old.machine databases.new.machine (W.contents output.old)
+        (W.contents output.new) source.now (said inquiry.now) }
 {
     match source {
         Source::Database(path) => ask_database(databases, alloc, path, inquiry, output, errors),
-        Source::Server(place) => ask_server(&databases.rt, alloc, place, inquiry, output, errors),
+        Source::Server(place) => ask_by_tables(
+            &databases.rt,
+            alloc,
+            place,
+            inquiry,
+            output,
+            errors,
+        ),
         Source::Script(file) => {
             ask_script::<H, _>(
                 databases.files,
@@ -356,14 +393,31 @@ fn ask_tables<H: Host>(
 ) -> u8
     requires { question asking.now.verb asking.now.line.items asking.now.form ≡ Ok inquiry.now.question }
     ensures status { (result ≡ DONE) ⊎ ((result ≡ REFUSED) ⊎ (result ≡ FAULT)) }
-    ensures whole { result ≡ DONE → IsAnswered H.Store.Store H.Opener.DatabaseOpener (sources_of H.Files.opens H.Files.Opened.remaining databases.old.files.now H.Net.reaches H.Net.Stream.remaining databases.old.rt (H.Input.remaining input.old)) databases.old.machine databases.new.machine (H.Output.contents output.old) (H.Output.contents output.new) asking.now.source (said inquiry.now) (IsWholeAnswer inquiry.now.question)
-        ⊎ (IsQuery inquiry.now.question × IsReplied H.Store.Store H.Opener.DatabaseOpener (sources_of H.Files.opens H.Files.Opened.remaining databases.old.files.now H.Net.reaches H.Net.Stream.remaining databases.old.rt (H.Input.remaining input.old)) databases.old.machine databases.new.machine (H.Output.contents output.old) (H.Output.contents output.new) asking.now.source asking.now.line.items (called inquiry.now.labels inquiry.now.form (names_of inquiry.now.names.now))) }
-    ensures at_most { IsAnsweredAtMost H.Store.Store H.Opener.DatabaseOpener (sources_of H.Files.opens H.Files.Opened.remaining databases.old.files.now H.Net.reaches H.Net.Stream.remaining databases.old.rt (H.Input.remaining input.old)) databases.old.machine databases.new.machine (H.Output.contents output.old) (H.Output.contents output.new) asking.now.source (said inquiry.now)
-        ⊎ (IsQuery inquiry.now.question × IsRepliedAtMost H.Store.Store H.Opener.DatabaseOpener (sources_of H.Files.opens H.Files.Opened.remaining databases.old.files.now H.Net.reaches H.Net.Stream.remaining databases.old.rt (H.Input.remaining input.old)) databases.old.machine databases.new.machine (H.Output.contents output.old) (H.Output.contents output.new) asking.now.source asking.now.line.items (called inquiry.now.labels inquiry.now.form (names_of inquiry.now.names.now))) }
+    ensures whole { result ≡ DONE →
+        IsAnswered H.Store.Store H.Opener.DatabaseOpener
+        (sources_of H.Files.opens H.Files.Opened.remaining databases.old.files.now H.Net.reaches H.Net.Stream.remaining databases.old.rt
+        (H.Input.remaining input.old)) databases.old.machine databases.new.machine (H.Output.contents output.old)
+        (H.Output.contents output.new) asking.now.source (said inquiry.now) (IsWholeAnswer inquiry.now.question)
+        ⊎ (IsQuery inquiry.now.question
+        × IsReplied H.Store.Store H.Opener.DatabaseOpener
+        (sources_of H.Files.opens H.Files.Opened.remaining databases.old.files.now H.Net.reaches H.Net.Stream.remaining databases.old.rt
+        (H.Input.remaining input.old)) databases.old.machine databases.new.machine (H.Output.contents output.old)
+        (H.Output.contents output.new) asking.now.source asking.now.line.items
+        (called inquiry.now.labels inquiry.now.form (names_of inquiry.now.names.now))) }
+    ensures at_most { IsAnsweredAtMost H.Store.Store H.Opener.DatabaseOpener
+        (sources_of H.Files.opens H.Files.Opened.remaining databases.old.files.now H.Net.reaches H.Net.Stream.remaining databases.old.rt
+        (H.Input.remaining input.old)) databases.old.machine databases.new.machine (H.Output.contents output.old)
+        (H.Output.contents output.new) asking.now.source (said inquiry.now)
+        ⊎ (IsQuery inquiry.now.question
+        × IsRepliedAtMost H.Store.Store H.Opener.DatabaseOpener
+        (sources_of H.Files.opens H.Files.Opened.remaining databases.old.files.now H.Net.reaches H.Net.Stream.remaining databases.old.rt
+        (H.Input.remaining input.old)) databases.old.machine databases.new.machine (H.Output.contents output.old)
+        (H.Output.contents output.new) asking.now.source asking.now.line.items
+        (called inquiry.now.labels inquiry.now.form (names_of inquiry.now.names.now))) }
 {
     let (source, rt) = (&asking.source, databases.rt);
-    match session_of(source, &inquiry.question) {
-        Some(place) => ask_session(&rt, alloc, &place, &asking.line, inquiry, output, errors),
+    match server_for_line(source, &inquiry.question) {
+        Some(place) => ask_by_line(&rt, alloc, &place, &asking.line, inquiry, output, errors),
         None => ask_source(databases, alloc, source, inquiry, input, output, errors),
     }
 }
@@ -386,8 +440,15 @@ pub(crate) fn ask<H: Host>(
     errors: &mut H::Errors,
 ) -> u8
     ensures status { (result ≡ DONE) ⊎ ((result ≡ REFUSED) ⊎ (result ≡ FAULT)) }
-    ensures whole { result ≡ DONE → HasAnswered H.Store.Store H.Opener.DatabaseOpener (sources_of H.Files.opens H.Files.Opened.remaining databases.old.files.now H.Net.reaches H.Net.Stream.remaining databases.old.rt (H.Input.remaining input.old)) databases.old.machine databases.new.machine (H.Output.contents output.old) (H.Output.contents output.new) asking.now }
-    ensures at_most { HasAnsweredAtMost H.Store.Store H.Opener.DatabaseOpener (sources_of H.Files.opens H.Files.Opened.remaining databases.old.files.now H.Net.reaches H.Net.Stream.remaining databases.old.rt (H.Input.remaining input.old)) databases.old.machine databases.new.machine (H.Output.contents output.old) (H.Output.contents output.new) asking.now }
+    ensures whole { result ≡ DONE →
+        HasAnswered H.Store.Store H.Opener.DatabaseOpener
+        (sources_of H.Files.opens H.Files.Opened.remaining databases.old.files.now H.Net.reaches H.Net.Stream.remaining databases.old.rt
+        (H.Input.remaining input.old)) databases.old.machine databases.new.machine (H.Output.contents output.old)
+        (H.Output.contents output.new) asking.now }
+    ensures at_most { HasAnsweredAtMost H.Store.Store H.Opener.DatabaseOpener
+        (sources_of H.Files.opens H.Files.Opened.remaining databases.old.files.now H.Net.reaches H.Net.Stream.remaining databases.old.rt
+        (H.Input.remaining input.old)) databases.old.machine databases.new.machine (H.Output.contents output.old)
+        (H.Output.contents output.new) asking.now }
 {
     let question = match question_of(asking.verb, &asking.line, asking.form) {
         Ok(question) => question,

@@ -9,10 +9,10 @@ use crate::asking::{REFUSED, write_text};
 use crate::impact::report_undivided;
 use crate::reading::{is_newline, read_whole, report_no_memory};
 use crate::tables::{Tables, tables_at};
-use prt_args::{AssertArgs, DONE, FAULT, STANDARD_INPUT};
-use prt_claims::{
+use prt_analyses::claims::{
     BadClaim, BadLine, Breach, Checked, ClaimFault, bad_word, check_claims, push_breach_line,
 };
+use prt_args::{AssertArgs, DONE, FAULT, STANDARD_INPUT};
 use prt_explain::explanation_text;
 use prt_machine::{DatabaseFiles, Host, Streams, tell};
 use prt_program::{Refusal, complaint, shown_text};
@@ -134,7 +134,8 @@ fn write_breaches<W: Write, E: Write>(
 ) -> u8
     requires { (tables.now.left ≡ DONE) ⊎ (tables.now.left ≡ REFUSED) }
     ensures status { (result ≡ DONE) ⊎ ((result ≡ REFUSED) ⊎ (result ≡ FAULT)) }
-    ensures whole { (result ≡ DONE) ⊎ (result ≡ REFUSED) → Appends (W.contents output.old) (W.contents output.new) (breaches_text is_explained tables.now.version checked.now.breaches.items) }
+    ensures whole { (result ≡ DONE) ⊎ (result ≡ REFUSED) →
+        Appends (W.contents output.old) (W.contents output.new) (breaches_text is_explained tables.now.version checked.now.breaches.items) }
     ensures hold { result ≡ DONE → checked.now.breaches.items ≡ [] }
     ensures left { result ≡ DONE → tables.now.left ≡ DONE }
     ensures part { IsCutOff (breaches_text is_explained tables.now.version checked.now.breaches.items) (W.contents output.old) (W.contents output.new) }
@@ -162,9 +163,15 @@ fn assert_over<H: Streams>(
 ) -> u8
     requires { (tables.now.left ≡ DONE) ⊎ (tables.now.left ≡ REFUSED) }
     ensures status { (result ≡ DONE) ⊎ ((result ≡ REFUSED) ⊎ ((result ≡ UNREADABLE) ⊎ (result ≡ FAULT))) }
-    ensures found { (result ≡ DONE) ⊎ (result ≡ REFUSED) → IsAsserted (IsRead (IsFileOf H.Files.opens H.Files.Opened.remaining files.now) (H.Input.remaining input.old) (path_of asserting.now.file)) (H.Output.contents output.old) (H.Output.contents output.new) asserting.now result tables.now.version }
-    ensures unreadable { result ≡ UNREADABLE → IsUnreadable (IsRead (IsFileOf H.Files.opens H.Files.Opened.remaining files.now) (H.Input.remaining input.old) (path_of asserting.now.file)) (H.Output.contents output.old) (H.Output.contents output.new) tables.now.version }
-    ensures at_most { IsAssertedAtMost (IsRead (IsFileOf H.Files.opens H.Files.Opened.remaining files.now) (H.Input.remaining input.old) (path_of asserting.now.file)) (H.Output.contents output.old) (H.Output.contents output.new) asserting.now tables.now.version }
+    ensures found { (result ≡ DONE) ⊎ (result ≡ REFUSED) →
+        IsAsserted (IsRead (IsFileOf H.Files.opens H.Files.Opened.remaining files.now) (H.Input.remaining input.old)
+        (path_of asserting.now.file)) (H.Output.contents output.old) (H.Output.contents output.new) asserting.now result tables.now.version }
+    ensures unreadable { result ≡ UNREADABLE →
+        IsUnreadable (IsRead (IsFileOf H.Files.opens H.Files.Opened.remaining files.now) (H.Input.remaining input.old)
+        (path_of asserting.now.file)) (H.Output.contents output.old) (H.Output.contents output.new) tables.now.version }
+    ensures at_most { IsAssertedAtMost
+        (IsRead (IsFileOf H.Files.opens H.Files.Opened.remaining files.now) (H.Input.remaining input.old) (path_of asserting.now.file))
+        (H.Output.contents output.old) (H.Output.contents output.new) asserting.now tables.now.version }
     ensures left { result ≡ DONE → tables.now.left ≡ DONE }
 {
     let text = match read_whole::<H, _>(files, alloc, asserting.file, input, output, errors) {
@@ -204,9 +211,28 @@ pub(crate) fn assert_claims<H: Host>(
     errors: &mut H::Errors,
 ) -> u8
     ensures status { (result ≡ DONE) ⊎ ((result ≡ REFUSED) ⊎ ((result ≡ UNREADABLE) ⊎ (result ≡ FAULT))) }
-    ensures found { (result ≡ DONE) ⊎ (result ≡ REFUSED) → IsFoundOf H.Store.Store H.Opener.DatabaseOpener (sources_of H.Files.opens H.Files.Opened.remaining databases.old.files.now H.Net.reaches H.Net.Stream.remaining databases.old.rt (H.Input.remaining input.old)) databases.old.machine databases.new.machine asserting.now.source result (IsAsserted (Gives (after (rest_by asserting.now.source) (sources_of H.Files.opens H.Files.Opened.remaining databases.old.files.now H.Net.reaches H.Net.Stream.remaining databases.old.rt (H.Input.remaining input.old))) (path_of asserting.now.file)) (H.Output.contents output.old) (H.Output.contents output.new) asserting.now result) }
-    ensures unreadable { result ≡ UNREADABLE → IsFoundOf H.Store.Store H.Opener.DatabaseOpener (sources_of H.Files.opens H.Files.Opened.remaining databases.old.files.now H.Net.reaches H.Net.Stream.remaining databases.old.rt (H.Input.remaining input.old)) databases.old.machine databases.new.machine asserting.now.source UNREADABLE (IsUnreadable (Gives (after (rest_by asserting.now.source) (sources_of H.Files.opens H.Files.Opened.remaining databases.old.files.now H.Net.reaches H.Net.Stream.remaining databases.old.rt (H.Input.remaining input.old))) (path_of asserting.now.file)) (H.Output.contents output.old) (H.Output.contents output.new)) }
-    ensures at_most { IsFoundAtMost H.Store.Store H.Opener.DatabaseOpener (sources_of H.Files.opens H.Files.Opened.remaining databases.old.files.now H.Net.reaches H.Net.Stream.remaining databases.old.rt (H.Input.remaining input.old)) databases.old.machine databases.new.machine (H.Output.contents output.old) (H.Output.contents output.new) asserting.now.source (IsAssertedAtMost (Gives (after (rest_by asserting.now.source) (sources_of H.Files.opens H.Files.Opened.remaining databases.old.files.now H.Net.reaches H.Net.Stream.remaining databases.old.rt (H.Input.remaining input.old))) (path_of asserting.now.file)) (H.Output.contents output.old) (H.Output.contents output.new) asserting.now) }
+    ensures found { (result ≡ DONE) ⊎ (result ≡ REFUSED) →
+        IsFoundOf H.Store.Store H.Opener.DatabaseOpener
+        (sources_of H.Files.opens H.Files.Opened.remaining databases.old.files.now H.Net.reaches H.Net.Stream.remaining databases.old.rt
+        (H.Input.remaining input.old)) databases.old.machine databases.new.machine asserting.now.source result
+        (IsAsserted (Gives (after (rest_by asserting.now.source)
+        (sources_of H.Files.opens H.Files.Opened.remaining databases.old.files.now H.Net.reaches H.Net.Stream.remaining databases.old.rt
+        (H.Input.remaining input.old))) (path_of asserting.now.file)) (H.Output.contents output.old)
+        (H.Output.contents output.new) asserting.now result) }
+    ensures unreadable { result ≡ UNREADABLE →
+        IsFoundOf H.Store.Store H.Opener.DatabaseOpener
+        (sources_of H.Files.opens H.Files.Opened.remaining databases.old.files.now H.Net.reaches H.Net.Stream.remaining databases.old.rt
+        (H.Input.remaining input.old)) databases.old.machine databases.new.machine asserting.now.source UNREADABLE
+        (IsUnreadable (Gives (after (rest_by asserting.now.source)
+        (sources_of H.Files.opens H.Files.Opened.remaining databases.old.files.now H.Net.reaches H.Net.Stream.remaining databases.old.rt
+        (H.Input.remaining input.old))) (path_of asserting.now.file)) (H.Output.contents output.old) (H.Output.contents output.new)) }
+    ensures at_most { IsFoundAtMost H.Store.Store H.Opener.DatabaseOpener
+        (sources_of H.Files.opens H.Files.Opened.remaining databases.old.files.now H.Net.reaches H.Net.Stream.remaining databases.old.rt
+        (H.Input.remaining input.old)) databases.old.machine databases.new.machine (H.Output.contents output.old)
+        (H.Output.contents output.new) asserting.now.source
+        (IsAssertedAtMost (Gives (after (rest_by asserting.now.source)
+        (sources_of H.Files.opens H.Files.Opened.remaining databases.old.files.now H.Net.reaches H.Net.Stream.remaining databases.old.rt
+        (H.Input.remaining input.old))) (path_of asserting.now.file)) (H.Output.contents output.old) (H.Output.contents output.new) asserting.now) }
 {
     let (files, source) = (databases.files, &asserting.source);
     let tables = match tables_at(databases, alloc, source, input, output, errors) {

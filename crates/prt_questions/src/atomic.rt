@@ -26,13 +26,15 @@ const REPLY_PATIENCE: u64 = 30;
 /// An atomic script without commands, for a number that no tables reach.
 const NO_NUMBER: &[u8] = b"at 18446744073709551615\n";
 
-/// What the reply to an atomic script begins with if the tables have another number. That of a session, and a feed, don't.
+/// What the reply to an atomic script begins with if the tables have another number. No reply of a session begins so, and
+/// no feed.
 const MOVED: &[u8] = b"at ";
 
 /// The first byte of that.
 const MOVED_BYTE: u8 = b'a';
 
-/// Asks a server whether it takes atomic scripts at a place: it has none of this number, and says which it has.
+/// Asks a server whether it takes atomic scripts at a place, by an empty script for a number that no tables have: a place
+/// for atomic scripts replies with the number of its tables.
 ///
 /// # Errors
 ///

@@ -3,7 +3,8 @@ ghost use Rattle.std.specs.Prelude.{◌≡◌, ◌==◌, ◌++◌, IfOk, MatchOp
 ghost use Rattle.std.specs.Char.{is_ascii_digit};
 ghost use Rattle.std.specs.List.{list_all};
 ghost use Rattle.prt_import.specs.Lines.{lines_of};
-ghost use Rattle.prt_questions.specs.StatusText.{figure_line, figure_text, figures_text, is_closed, is_digits, is_number, json_value, line_byte, member, metric, parts_at, sample, shown_byte, status_text, string_byte, string_text};
+ghost use Rattle.prt_questions.specs.StatusText.{figure_line, figure_text, figures_text, is_closed, is_digits, is_number, json_value, line_byte};
+ghost use Rattle.prt_questions.specs.StatusText.{member, metric, parts_at, sample, shown_byte, status_text, string_byte, string_text};
 
 use prt_args::StatusForm;
 use prt_import::next_line;

@@ -56,7 +56,10 @@ fn begin_at<N: LocalNet, W: Write, E: Write>(
     output: &mut W,
     errors: &mut E,
 ) -> Result<(BufReader<N::Stream>, Mirror, Answered), u8>
-    ensures begun { IfOk result (λ begun. (told : State) × (is : AreTold N.reaches N.Stream.remaining rt.now place.now told) × (reader_remaining N.Stream.remaining begun.0 ≡ is.rest) × (begun.1 ≡ mirror_of listing.fence listing.found told) × (begun.2.text.items ≡ changes_text listing.fence listing.found told) × AreNotesOf listing.fence listing.found told begun.2.notes) }
+    ensures begun { IfOk result (λ begun.
+        (told : State) × (is : AreTold N.reaches N.Stream.remaining rt.now place.now told)
+        × (reader_remaining N.Stream.remaining begun.0 ≡ is.rest) × (begun.1 ≡ mirror_of listing.fence listing.found told)
+        × (begun.2.text.items ≡ changes_text listing.fence listing.found told) × AreNotesOf listing.fence listing.found told begun.2.notes) }
     ensures fault { IfErr result (λ status. (status ≡ REFUSED) ⊎ (status ≡ FAULT)) }
     ensures unwritten { W.contents output.new ≡ W.contents output.old }
 {
@@ -92,7 +95,8 @@ fn follow_on<R: Read + Drop, W: Write, E: Write>(
     errors: &mut E,
 ) -> u8
     ensures status { result ≡ FAULT }
-    ensures follows { (after : Mirror) × (is_whole : Bool) × (changes : List Change) × (read : Option (List ℕ)) × AreRead (R.remaining reader) read changes × Follows mirror after changes is_whole (W.contents output.old) (W.contents output.new) }
+    ensures follows { (after : Mirror) × (is_whole : Bool) × (changes : List Change) × (read : Option (List ℕ))
+        × AreRead (R.remaining reader) read changes × Follows mirror after changes is_whole (W.contents output.old) (W.contents output.new) }
 {
     let end = follow(alloc, &mut mirror, &mut reader, told, output, errors);
     tell_end(alloc, place, end, errors);
@@ -114,8 +118,13 @@ pub(crate) fn follow_server<H: Streams, N: LocalNet>(
     errors: &mut H::Errors,
 ) -> u8
     ensures status { (result ≡ DONE) ⊎ ((result ≡ REFUSED) ⊎ (result ≡ FAULT)) }
-    ensures whole { result ≡ DONE → HasFollowed (sources_of H.Files.opens H.Files.Opened.remaining files.now N.reaches N.Stream.remaining rt.now (H.Input.remaining input.old)) (H.Output.contents output.old) (H.Output.contents output.new) (path_of following.now.file) following.now.server following.now.reach }
-    ensures at_most { HasFollowedAtMost (sources_of H.Files.opens H.Files.Opened.remaining files.now N.reaches N.Stream.remaining rt.now (H.Input.remaining input.old)) (H.Output.contents output.old) (H.Output.contents output.new) (path_of following.now.file) following.now.server following.now.reach }
+    ensures whole { result ≡ DONE →
+        HasFollowed (sources_of H.Files.opens H.Files.Opened.remaining files.now N.reaches N.Stream.remaining rt.now
+        (H.Input.remaining input.old)) (H.Output.contents output.old) (H.Output.contents output.new)
+        (path_of following.now.file) following.now.server following.now.reach }
+    ensures at_most { HasFollowedAtMost
+        (sources_of H.Files.opens H.Files.Opened.remaining files.now N.reaches N.Stream.remaining rt.now (H.Input.remaining input.old))
+        (H.Output.contents output.old) (H.Output.contents output.new) (path_of following.now.file) following.now.server following.now.reach }
 {
     let place = &following.server;
     let (file, reach) = (following.file, &following.reach);

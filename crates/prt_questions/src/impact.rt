@@ -79,10 +79,12 @@ fn write_impact<W: Write, E: Write>(
     errors: &mut E,
 ) -> u8
     ensures status { (result ≡ DONE) ⊎ ((result ≡ REFUSED) ⊎ (result ≡ FAULT)) }
-    ensures whole { (result ≡ DONE) ⊎ (result ≡ REFUSED) → (groups : List GroupOf) × AreGroups (sameness_of rehearsing.now.exactness) before.now after.now groups
+    ensures whole { (result ≡ DONE) ⊎ (result ≡ REFUSED) →
+        (groups : List GroupOf) × AreGroups (sameness_of rehearsing.now.exactness) before.now after.now groups
         × Appends (W.contents output.old) (W.contents output.new) (impact_text rehearsing.now.form groups) × (result ≡ DONE → groups ≡ []) }
     ensures part { (W.contents output.new ≡ W.contents output.old)
-        ⊎ ((groups : List GroupOf) × AreGroups (sameness_of rehearsing.now.exactness) before.now after.now groups × IsCutOff (impact_text rehearsing.now.form groups) (W.contents output.old) (W.contents output.new)) }
+        ⊎ ((groups : List GroupOf) × AreGroups (sameness_of rehearsing.now.exactness) before.now after.now groups
+        × IsCutOff (impact_text rehearsing.now.form groups) (W.contents output.old) (W.contents output.new)) }
 {
     let groups = match impact(alloc, before, after, sameness_of(rehearsing.exactness)) {
         Ok(groups) => groups,
@@ -119,8 +121,12 @@ fn rehearse_over<H: Streams>(
 ) -> u8
     requires { (tables.now.left ≡ DONE) ⊎ (tables.now.left ≡ REFUSED) }
     ensures status { (result ≡ DONE) ⊎ ((result ≡ REFUSED) ⊎ (result ≡ FAULT)) }
-    ensures found { (result ≡ DONE) ⊎ (result ≡ REFUSED) → IsRehearsed (IsRead (IsFileOf H.Files.opens H.Files.Opened.remaining files.now) (H.Input.remaining input.old) (path_of rehearsing.now.file)) (H.Output.contents output.old) (H.Output.contents output.new) rehearsing.now result tables.now.version }
-    ensures at_most { IsRehearsedAtMost (IsRead (IsFileOf H.Files.opens H.Files.Opened.remaining files.now) (H.Input.remaining input.old) (path_of rehearsing.now.file)) (H.Output.contents output.old) (H.Output.contents output.new) rehearsing.now tables.now.version }
+    ensures found { (result ≡ DONE) ⊎ (result ≡ REFUSED) →
+        IsRehearsed (IsRead (IsFileOf H.Files.opens H.Files.Opened.remaining files.now) (H.Input.remaining input.old)
+        (path_of rehearsing.now.file)) (H.Output.contents output.old) (H.Output.contents output.new) rehearsing.now result tables.now.version }
+    ensures at_most { IsRehearsedAtMost
+        (IsRead (IsFileOf H.Files.opens H.Files.Opened.remaining files.now) (H.Input.remaining input.old) (path_of rehearsing.now.file))
+        (H.Output.contents output.old) (H.Output.contents output.new) rehearsing.now tables.now.version }
     ensures left { result ≡ DONE → tables.now.left ≡ DONE }
 {
     let script = match read_whole::<H, _>(files, alloc, rehearsing.file, input, output, errors) {
@@ -153,8 +159,21 @@ pub(crate) fn rehearse<H: Host>(
     errors: &mut H::Errors,
 ) -> u8
     ensures status { (result ≡ DONE) ⊎ ((result ≡ REFUSED) ⊎ (result ≡ FAULT)) }
-    ensures found { (result ≡ DONE) ⊎ (result ≡ REFUSED) → IsFoundOf H.Store.Store H.Opener.DatabaseOpener (sources_of H.Files.opens H.Files.Opened.remaining databases.old.files.now H.Net.reaches H.Net.Stream.remaining databases.old.rt (H.Input.remaining input.old)) databases.old.machine databases.new.machine rehearsing.now.source result (IsRehearsed (Gives (after (rest_by rehearsing.now.source) (sources_of H.Files.opens H.Files.Opened.remaining databases.old.files.now H.Net.reaches H.Net.Stream.remaining databases.old.rt (H.Input.remaining input.old))) (path_of rehearsing.now.file)) (H.Output.contents output.old) (H.Output.contents output.new) rehearsing.now result) }
-    ensures at_most { IsFoundAtMost H.Store.Store H.Opener.DatabaseOpener (sources_of H.Files.opens H.Files.Opened.remaining databases.old.files.now H.Net.reaches H.Net.Stream.remaining databases.old.rt (H.Input.remaining input.old)) databases.old.machine databases.new.machine (H.Output.contents output.old) (H.Output.contents output.new) rehearsing.now.source (IsRehearsedAtMost (Gives (after (rest_by rehearsing.now.source) (sources_of H.Files.opens H.Files.Opened.remaining databases.old.files.now H.Net.reaches H.Net.Stream.remaining databases.old.rt (H.Input.remaining input.old))) (path_of rehearsing.now.file)) (H.Output.contents output.old) (H.Output.contents output.new) rehearsing.now) }
+    ensures found { (result ≡ DONE) ⊎ (result ≡ REFUSED) →
+        IsFoundOf H.Store.Store H.Opener.DatabaseOpener
+        (sources_of H.Files.opens H.Files.Opened.remaining databases.old.files.now H.Net.reaches H.Net.Stream.remaining databases.old.rt
+        (H.Input.remaining input.old)) databases.old.machine databases.new.machine rehearsing.now.source result
+        (IsRehearsed (Gives (after (rest_by rehearsing.now.source)
+        (sources_of H.Files.opens H.Files.Opened.remaining databases.old.files.now H.Net.reaches H.Net.Stream.remaining databases.old.rt
+        (H.Input.remaining input.old))) (path_of rehearsing.now.file)) (H.Output.contents output.old)
+        (H.Output.contents output.new) rehearsing.now result) }
+    ensures at_most { IsFoundAtMost H.Store.Store H.Opener.DatabaseOpener
+        (sources_of H.Files.opens H.Files.Opened.remaining databases.old.files.now H.Net.reaches H.Net.Stream.remaining databases.old.rt
+        (H.Input.remaining input.old)) databases.old.machine databases.new.machine (H.Output.contents output.old)
+        (H.Output.contents output.new) rehearsing.now.source
+        (IsRehearsedAtMost (Gives (after (rest_by rehearsing.now.source)
+        (sources_of H.Files.opens H.Files.Opened.remaining databases.old.files.now H.Net.reaches H.Net.Stream.remaining databases.old.rt
+        (H.Input.remaining input.old))) (path_of rehearsing.now.file)) (H.Output.contents output.old) (H.Output.contents output.new) rehearsing.now) }
 {
     let (files, source) = (databases.files, &rehearsing.source);
     let tables = match tables_at(databases, alloc, source, input, output, errors) {

@@ -75,8 +75,12 @@ fn write_difference<W: Write, E: Write>(
     errors: &mut E,
 ) -> u8
     ensures status { (result ≡ DONE) ⊎ ((result ≡ REFUSED) ⊎ (result ≡ FAULT)) }
-    ensures whole { result ≡ DONE → (text : List ℕ) × IsWithImpact comparison.now.fence.now comparison.now.found.now wanted.now text × Appends (W.contents output.old) (W.contents output.new) text × IsWholeChange comparison.now.fence.now comparison.now.found.now wanted.now }
-    ensures part { (W.contents output.new ≡ W.contents output.old) ⊎ ((text : List ℕ) × IsWithImpact comparison.now.fence.now comparison.now.found.now wanted.now text × IsCutOff text (W.contents output.old) (W.contents output.new)) }
+    ensures whole { result ≡ DONE →
+        (text : List ℕ) × IsWithImpact comparison.now.fence.now comparison.now.found.now wanted.now text
+        × Appends (W.contents output.old) (W.contents output.new) text × IsWholeChange comparison.now.fence.now comparison.now.found.now wanted.now }
+    ensures part { (W.contents output.new ≡ W.contents output.old)
+        ⊎ ((text : List ℕ) × IsWithImpact comparison.now.fence.now comparison.now.found.now wanted.now text
+        × IsCutOff text (W.contents output.old) (W.contents output.new)) }
 {
     let Answered { text, notes } = match answer(alloc, wanted, &Question::Diff(*comparison)) {
         Ok(made) => made,
@@ -100,9 +104,22 @@ pub(crate) fn diff_with_impact<H: Host>(
     errors: &mut H::Errors,
 ) -> u8
     ensures status { (result ≡ DONE) ⊎ ((result ≡ REFUSED) ⊎ (result ≡ FAULT)) }
-    ensures whole { result ≡ DONE → IsAskedOf H.Store.Store H.Opener.DatabaseOpener (sources_of H.Files.opens H.Files.Opened.remaining databases.old.files.now H.Net.reaches H.Net.Stream.remaining databases.old.rt (H.Input.remaining input.old)) databases.old.machine databases.new.machine source.now (λ state. (text : List ℕ) × IsWithImpact comparison.now.fence.now comparison.now.found.now state text × Appends (H.Output.contents output.old) (H.Output.contents output.new) text × IsWholeChange comparison.now.fence.now comparison.now.found.now state) }
-    ensures at_most { ((H.Output.contents output.new ≡ H.Output.contents output.old) × IsNotRead H.Store.Store H.Opener.DatabaseOpener (sources_of H.Files.opens H.Files.Opened.remaining databases.old.files.now H.Net.reaches H.Net.Stream.remaining databases.old.rt (H.Input.remaining input.old)) databases.old.machine databases.new.machine source.now)
-        ⊎ IsAskedOf H.Store.Store H.Opener.DatabaseOpener (sources_of H.Files.opens H.Files.Opened.remaining databases.old.files.now H.Net.reaches H.Net.Stream.remaining databases.old.rt (H.Input.remaining input.old)) databases.old.machine databases.new.machine source.now (λ state. (text : List ℕ) × IsWithImpact comparison.now.fence.now comparison.now.found.now state text × IsCutOff text (H.Output.contents output.old) (H.Output.contents output.new)) }
+    ensures whole { result ≡ DONE →
+        IsAskedOf H.Store.Store H.Opener.DatabaseOpener
+        (sources_of H.Files.opens H.Files.Opened.remaining databases.old.files.now H.Net.reaches H.Net.Stream.remaining databases.old.rt
+        (H.Input.remaining input.old)) databases.old.machine databases.new.machine source.now
+        (λ state. (text : List ℕ) × IsWithImpact comparison.now.fence.now comparison.now.found.now state text
+        × Appends (H.Output.contents output.old) (H.Output.contents output.new) text
+        × IsWholeChange comparison.now.fence.now comparison.now.found.now state) }
+    ensures at_most { ((H.Output.contents output.new ≡ H.Output.contents output.old)
+        × IsNotRead H.Store.Store H.Opener.DatabaseOpener
+        (sources_of H.Files.opens H.Files.Opened.remaining databases.old.files.now H.Net.reaches H.Net.Stream.remaining databases.old.rt
+        (H.Input.remaining input.old)) databases.old.machine databases.new.machine source.now)
+        ⊎ IsAskedOf H.Store.Store H.Opener.DatabaseOpener
+        (sources_of H.Files.opens H.Files.Opened.remaining databases.old.files.now H.Net.reaches H.Net.Stream.remaining databases.old.rt
+        (H.Input.remaining input.old)) databases.old.machine databases.new.machine source.now
+        (λ state. (text : List ℕ) × IsWithImpact comparison.now.fence.now comparison.now.found.now state text
+        × IsCutOff text (H.Output.contents output.old) (H.Output.contents output.new)) }
 {
     let tables = match tables_at(databases, alloc, source, input, output, errors) {
         Ok(tables) => tables,

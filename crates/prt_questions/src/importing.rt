@@ -1,7 +1,8 @@
 //! What `ip` prints, as a script, and what differs from it.
 ghost use Rattle.std.specs.Prelude.{◌≡◌, ◌⊎◌, IfErr, IfOk, OnOk, [], true};
 ghost use Rattle.std.specs.List.{list_any};
-ghost use Rattle.prt_questions.specs.Asking.{AreKept, AreLinesOf, HasCompared, HasComparedAtMost, IsAskedOf, IsFenced, IsListing, IsMadeOf, IsNotAsked, IsShown, IsShownAtMost, IsWholeAnswer, IsWholeFenced, adds, is_any_known, said};
+ghost use Rattle.prt_questions.specs.Asking.{AreKept, AreLinesOf, HasCompared, HasComparedAtMost, IsAskedOf, IsFenced, IsListing, IsMadeOf};
+ghost use Rattle.prt_questions.specs.Asking.{IsNotAsked, IsShown, IsShownAtMost, IsWholeAnswer, IsWholeFenced, adds, is_any_known, said};
 ghost use Rattle.prt_questions.specs.LeftOut.{is_kernels};
 ghost use Rattle.prt_questions.specs.Sources.{HasLeft, IsFileOf, IsRead, path_of, rest_after, sources_of};
 ghost use Rattle.prt_questions.specs.Importing.{HasImported, HasImportedAtMost, IsImported, IsImportedAtMost};
@@ -20,10 +21,10 @@ use crate::reading::{host_names, read_whole, report_no_memory, report_unread};
 use prt_args::{DONE, DiffArgs, FAULT, Form, ImportArgs, Labels, Reach, Shown, Source};
 use prt_ask::{Comparison, Question};
 use prt_diff::Fence;
+use prt_import::ip_json::{ListingError, is_json, listing_of};
 use prt_import::{
     Accepted, Imported, Names, OmittedLine, accept, check_listing, import, next_line,
 };
-use prt_ip_json::{ListingError, is_json, listing_of};
 use prt_machine::{DatabaseFiles, Host, Streams};
 use prt_program::{ReadFiles, Refusal};
 use prt_version::Version;
@@ -141,7 +142,9 @@ pub(crate) fn read_listing<H: Streams>(
     output: &mut H::Output,
     errors: &mut H::Errors,
 ) -> Result<(Accepted, u8, Vec<OmittedLine>), u8>
-    ensures made { IfOk result (λ read. IsListing (IsRead (IsFileOf H.Files.opens H.Files.Opened.remaining files.now) (H.Input.remaining input.old) (path_of file.entry)) read.2.items read.0) }
+    ensures made { IfOk result (λ read.
+        IsListing (IsRead (IsFileOf H.Files.opens H.Files.Opened.remaining files.now) (H.Input.remaining input.old)
+        (path_of file.entry)) read.2.items read.0) }
     ensures status { IfOk result (λ read. (read.1 ≡ DONE) ⊎ (read.1 ≡ REFUSED)) }
     ensures kept { IfOk result (λ read. read.1 ≡ DONE → AreKept read.2.items read.0) }
     ensures left { OnOk result (HasLeft (rest_after (path_of file.entry)) (H.Input.remaining input.old) (H.Input.remaining input.new)) }
@@ -193,9 +196,13 @@ pub(crate) fn read_fenced<H: Streams>(
     output: &mut H::Output,
     errors: &mut H::Errors,
 ) -> Result<Fenced, u8>
-    ensures made { IfOk result (λ listing. IsFenced (IsRead (IsFileOf H.Files.opens H.Files.Opened.remaining files.now) (H.Input.remaining input.old) (path_of file.entry)) reach.now listing.found listing.fence) }
+    ensures made { IfOk result (λ listing.
+        IsFenced (IsRead (IsFileOf H.Files.opens H.Files.Opened.remaining files.now) (H.Input.remaining input.old)
+        (path_of file.entry)) reach.now listing.found listing.fence) }
     ensures status { IfOk result (λ listing. (listing.left ≡ DONE) ⊎ (listing.left ≡ REFUSED)) }
-    ensures kept { IfOk result (λ listing. listing.left ≡ DONE → IsWholeFenced (IsRead (IsFileOf H.Files.opens H.Files.Opened.remaining files.now) (H.Input.remaining input.old) (path_of file.entry)) reach.now listing.found listing.fence) }
+    ensures kept { IfOk result (λ listing. listing.left ≡ DONE →
+        IsWholeFenced (IsRead (IsFileOf H.Files.opens H.Files.Opened.remaining files.now) (H.Input.remaining input.old)
+        (path_of file.entry)) reach.now listing.found listing.fence) }
     ensures left { OnOk result (HasLeft (rest_after (path_of file.entry)) (H.Input.remaining input.old) (H.Input.remaining input.new)) }
     ensures fault { IfErr result (λ status. status ≡ FAULT) }
     ensures unwritten { H.Output.contents output.new ≡ H.Output.contents output.old }
@@ -222,8 +229,11 @@ fn print_or_make<H: Host>(
     errors: &mut H::Errors,
 ) -> u8
     ensures status { (result ≡ DONE) ⊎ (result ≡ FAULT) }
-    ensures whole { result ≡ DONE → IsImported H.Store.Store H.Opener.DatabaseOpener databases.old.machine databases.new.machine (H.Output.contents output.old) (H.Output.contents output.new) (path_of database.entry) accepted }
-    ensures at_most { IsImportedAtMost H.Store.Store H.Opener.DatabaseOpener databases.old.machine databases.new.machine (H.Output.contents output.old) (H.Output.contents output.new) (path_of database.entry) accepted }
+    ensures whole { result ≡ DONE →
+        IsImported H.Store.Store H.Opener.DatabaseOpener databases.old.machine databases.new.machine (H.Output.contents output.old)
+        (H.Output.contents output.new) (path_of database.entry) accepted }
+    ensures at_most { IsImportedAtMost H.Store.Store H.Opener.DatabaseOpener databases.old.machine databases.new.machine
+        (H.Output.contents output.old) (H.Output.contents output.new) (path_of database.entry) accepted }
 {
     match database {
         Some(path) => {
@@ -249,8 +259,15 @@ pub(crate) fn import_listing<H: Host>(
     errors: &mut H::Errors,
 ) -> u8
     ensures status { (result ≡ DONE) ⊎ ((result ≡ REFUSED) ⊎ (result ≡ FAULT)) }
-    ensures whole { result ≡ DONE → HasImported H.Store.Store H.Opener.DatabaseOpener (sources_of H.Files.opens H.Files.Opened.remaining databases.old.files.now H.Net.reaches H.Net.Stream.remaining databases.old.rt (H.Input.remaining input.old)) databases.old.machine databases.new.machine (H.Output.contents output.old) (H.Output.contents output.new) (path_of importing.now.file) (path_of importing.now.database) }
-    ensures at_most { HasImportedAtMost H.Store.Store H.Opener.DatabaseOpener (sources_of H.Files.opens H.Files.Opened.remaining databases.old.files.now H.Net.reaches H.Net.Stream.remaining databases.old.rt (H.Input.remaining input.old)) databases.old.machine databases.new.machine (H.Output.contents output.old) (H.Output.contents output.new) (path_of importing.now.file) (path_of importing.now.database) }
+    ensures whole { result ≡ DONE →
+        HasImported H.Store.Store H.Opener.DatabaseOpener
+        (sources_of H.Files.opens H.Files.Opened.remaining databases.old.files.now H.Net.reaches H.Net.Stream.remaining databases.old.rt
+        (H.Input.remaining input.old)) databases.old.machine databases.new.machine (H.Output.contents output.old)
+        (H.Output.contents output.new) (path_of importing.now.file) (path_of importing.now.database) }
+    ensures at_most { HasImportedAtMost H.Store.Store H.Opener.DatabaseOpener
+        (sources_of H.Files.opens H.Files.Opened.remaining databases.old.files.now H.Net.reaches H.Net.Stream.remaining databases.old.rt
+        (H.Input.remaining input.old)) databases.old.machine databases.new.machine (H.Output.contents output.old)
+        (H.Output.contents output.new) (path_of importing.now.file) (path_of importing.now.database) }
 {
     let read = read_listing::<H>(
         databases.files,
@@ -285,8 +302,15 @@ fn compare<H: Host>(
     errors: &mut H::Errors,
 ) -> u8
     ensures status { (result ≡ DONE) ⊎ ((result ≡ REFUSED) ⊎ (result ≡ FAULT)) }
-    ensures same { result ≡ DONE → IsAskedOf H.Store.Store H.Opener.DatabaseOpener (sources_of H.Files.opens H.Files.Opened.remaining databases.old.files.now H.Net.reaches H.Net.Stream.remaining databases.old.rt (H.Input.remaining input.old)) databases.old.machine databases.new.machine source.now (λ state. (said inquiry.now state ≡ []) × IsWholeAnswer inquiry.now.question state) }
-    ensures part { IsNotAsked H.Store.Store H.Opener.DatabaseOpener databases.old.machine databases.new.machine source.now ⊎ IsAskedOf H.Store.Store H.Opener.DatabaseOpener (sources_of H.Files.opens H.Files.Opened.remaining databases.old.files.now H.Net.reaches H.Net.Stream.remaining databases.old.rt (H.Input.remaining input.old)) databases.old.machine databases.new.machine source.now (λ state. Unit {0}) }
+    ensures same { result ≡ DONE →
+        IsAskedOf H.Store.Store H.Opener.DatabaseOpener
+        (sources_of H.Files.opens H.Files.Opened.remaining databases.old.files.now H.Net.reaches H.Net.Stream.remaining databases.old.rt
+        (H.Input.remaining input.old)) databases.old.machine databases.new.machine source.now
+        (λ state. (said inquiry.now state ≡ []) × IsWholeAnswer inquiry.now.question state) }
+    ensures part { IsNotAsked H.Store.Store H.Opener.DatabaseOpener databases.old.machine databases.new.machine source.now
+        ⊎ IsAskedOf H.Store.Store H.Opener.DatabaseOpener
+        (sources_of H.Files.opens H.Files.Opened.remaining databases.old.files.now H.Net.reaches H.Net.Stream.remaining databases.old.rt
+        (H.Input.remaining input.old)) databases.old.machine databases.new.machine source.now (λ state. Unit {0}) }
 {
     let mut lines: Vec<u8> = Vec::new(alloc);
     let asked = ask_source(databases, alloc, source, inquiry, input, &mut lines, errors);
@@ -312,8 +336,15 @@ fn show_difference<H: Host>(
     errors: &mut H::Errors,
 ) -> u8
     ensures status { (result ≡ DONE) ⊎ ((result ≡ REFUSED) ⊎ (result ≡ FAULT)) }
-    ensures whole { result ≡ DONE → IsShown H.Store.Store H.Opener.DatabaseOpener (sources_of H.Files.opens H.Files.Opened.remaining databases.old.files.now H.Net.reaches H.Net.Stream.remaining databases.old.rt (H.Input.remaining input.old)) databases.old.machine databases.new.machine (H.Output.contents output.old) (H.Output.contents output.new) comparison.now.fence.now comparison.now.found.now diffing.now.shown diffing.now.source }
-    ensures at_most { IsShownAtMost H.Store.Store H.Opener.DatabaseOpener (sources_of H.Files.opens H.Files.Opened.remaining databases.old.files.now H.Net.reaches H.Net.Stream.remaining databases.old.rt (H.Input.remaining input.old)) databases.old.machine databases.new.machine (H.Output.contents output.old) (H.Output.contents output.new) comparison.now.fence.now comparison.now.found.now diffing.now.shown diffing.now.source }
+    ensures whole { result ≡ DONE →
+        IsShown H.Store.Store H.Opener.DatabaseOpener
+        (sources_of H.Files.opens H.Files.Opened.remaining databases.old.files.now H.Net.reaches H.Net.Stream.remaining databases.old.rt
+        (H.Input.remaining input.old)) databases.old.machine databases.new.machine (H.Output.contents output.old)
+        (H.Output.contents output.new) comparison.now.fence.now comparison.now.found.now diffing.now.shown diffing.now.source }
+    ensures at_most { IsShownAtMost H.Store.Store H.Opener.DatabaseOpener
+        (sources_of H.Files.opens H.Files.Opened.remaining databases.old.files.now H.Net.reaches H.Net.Stream.remaining databases.old.rt
+        (H.Input.remaining input.old)) databases.old.machine databases.new.machine (H.Output.contents output.old)
+        (H.Output.contents output.new) comparison.now.fence.now comparison.now.found.now diffing.now.shown diffing.now.source }
 {
     let inquiry = Inquiry {
         question: Question::Diff(*comparison),
@@ -346,8 +377,15 @@ pub(crate) fn diff<H: Host>(
     errors: &mut H::Errors,
 ) -> u8
     ensures status { (result ≡ DONE) ⊎ ((result ≡ REFUSED) ⊎ (result ≡ FAULT)) }
-    ensures whole { result ≡ DONE → HasCompared H.Store.Store H.Opener.DatabaseOpener (sources_of H.Files.opens H.Files.Opened.remaining databases.old.files.now H.Net.reaches H.Net.Stream.remaining databases.old.rt (H.Input.remaining input.old)) databases.old.machine databases.new.machine (H.Output.contents output.old) (H.Output.contents output.new) (path_of diffing.now.file) diffing.now.reach diffing.now.shown diffing.now.source }
-    ensures at_most { HasComparedAtMost H.Store.Store H.Opener.DatabaseOpener (sources_of H.Files.opens H.Files.Opened.remaining databases.old.files.now H.Net.reaches H.Net.Stream.remaining databases.old.rt (H.Input.remaining input.old)) databases.old.machine databases.new.machine (H.Output.contents output.old) (H.Output.contents output.new) (path_of diffing.now.file) diffing.now.reach diffing.now.shown diffing.now.source }
+    ensures whole { result ≡ DONE →
+        HasCompared H.Store.Store H.Opener.DatabaseOpener
+        (sources_of H.Files.opens H.Files.Opened.remaining databases.old.files.now H.Net.reaches H.Net.Stream.remaining databases.old.rt
+        (H.Input.remaining input.old)) databases.old.machine databases.new.machine (H.Output.contents output.old)
+        (H.Output.contents output.new) (path_of diffing.now.file) diffing.now.reach diffing.now.shown diffing.now.source }
+    ensures at_most { HasComparedAtMost H.Store.Store H.Opener.DatabaseOpener
+        (sources_of H.Files.opens H.Files.Opened.remaining databases.old.files.now H.Net.reaches H.Net.Stream.remaining databases.old.rt
+        (H.Input.remaining input.old)) databases.old.machine databases.new.machine (H.Output.contents output.old)
+        (H.Output.contents output.new) (path_of diffing.now.file) diffing.now.reach diffing.now.shown diffing.now.source }
 {
     let (files, file, reach) = (databases.files, diffing.file, &diffing.reach);
     let listing = match read_fenced::<H>(files, alloc, file, reach, input, output, errors) {

@@ -1,4 +1,5 @@
-//! Questions from outside a session: to the databases of a machine, to a server, or to what a script makes.
+//! Each subcommand that asks or applies once, over the databases of a machine, a server, or what a script makes: all but
+//! `check`, `replay`, `serve` and a local `batch`.
 #![tactic(auto)]
 
 mod apply_remote;

@@ -1,7 +1,7 @@
 //! The changes that make tables others, and what is printed of them.
 ghost use Rattle.std.specs.Prelude.{◌≡◌, ◌++◌, All, IfOk, OnOk, codes, decimal, true};
-ghost use Rattle.prt_apply.specs.Plan.{plan};
 ghost use Rattle.prt_command.specs.Storable.{IsStorable};
+ghost use Rattle.prt_diff.specs.Apply.Plan.{plan};
 ghost use Rattle.prt_questions.specs.Applying.{IsPlanText, made_text};
 ghost use Rattle.prt_version.specs.Sound.{IsSound};
 
@@ -9,9 +9,9 @@ use crate::impact::report_undivided;
 use crate::impact_of_diff::with_comments;
 use crate::reading::report_no_memory;
 use itoa::Buffer;
-use prt_apply::{is_storable, plan};
 use prt_args::FAULT;
 use prt_command::Command;
+use prt_diff::apply::{is_storable, plan};
 use prt_diff::{LineError, commands_text};
 use prt_impact::impact;
 use prt_machine::tell;

@@ -77,10 +77,10 @@ fn read_text<F: ReadFiles, R: Read>(
 }
 
 /// Reports why a file, or the input if none is named, can't be read, and returns the exit status for it.
-pub(crate) fn report_unread<D: Display, W: Write, E: Write>(
+pub(crate) fn report_unread<P: Display, W: Write, E: Write>(
     alloc: Global,
     file: Option<&str>,
-    reason: &D,
+    reason: &P,
     output: &mut W,
     errors: &mut E,
 ) -> u8
@@ -106,7 +106,8 @@ pub(crate) fn read_whole<H: Streams, W: Write>(
     output: &mut W,
     errors: &mut H::Errors,
 ) -> Result<Vec<u8>, u8>
-    ensures read { IfOk result (λ text. IsRead (IsFileOf H.Files.opens H.Files.Opened.remaining files.now) (H.Input.remaining input.old) (path_of file.entry) text.items) }
+    ensures read { IfOk result (λ text.
+        IsRead (IsFileOf H.Files.opens H.Files.Opened.remaining files.now) (H.Input.remaining input.old) (path_of file.entry) text.items) }
     ensures left { OnOk result (HasLeft (rest_after (path_of file.entry)) (H.Input.remaining input.old) (H.Input.remaining input.new)) }
     ensures fault { IfErr result (λ status. status ≡ FAULT) }
     ensures unwritten { W.contents output.new ≡ W.contents output.old }

@@ -194,7 +194,8 @@ pub(crate) fn open_feed<N: LocalNet>(
     alloc: Global,
     place: &ServerPlace<'_>,
 ) -> Result<(BufReader<N::Stream>, Version), ServerError>
-    ensures { IfOk result (λ opened. (told : AreTold N.reaches N.Stream.remaining rt.now place.now opened.1) × (reader_remaining N.Stream.remaining opened.0 ≡ told.rest)) }
+    ensures { IfOk result (λ opened.
+        (told : AreTold N.reaches N.Stream.remaining rt.now place.now opened.1) × (reader_remaining N.Stream.remaining opened.0 ≡ told.rest)) }
 {
     let patience = Duration::from_secs(PATIENCE);
     let stream = rt.reach(alloc, place, Socket::Feed, patience, &[])?;

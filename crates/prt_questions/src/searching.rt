@@ -1,6 +1,6 @@
 //! Rules and routes that no packet needs.
 ghost use Rattle.std.specs.Prelude.{◌≡◌, ◌⊎◌, [], IfOk, true};
-ghost use Rattle.prt_unused.specs.Text.{unused_text};
+ghost use Rattle.prt_analyses.specs.Unused.Text.{unused_text};
 ghost use Rattle.prt_questions.specs.Analyses.{IsFoundAtMost, IsFoundOf, IsSearched, IsSearchedAtMost};
 ghost use Rattle.prt_questions.specs.Sources.{sources_of};
 
@@ -8,10 +8,10 @@ use crate::asking::{REFUSED, write_text};
 use crate::impact::report_undivided;
 use crate::reading::report_no_memory;
 use crate::tables::{Tables, tables_at};
+use prt_analyses::unused::{Unused, unused, unused_text};
 use prt_args::{DONE, FAULT, Source};
 use prt_machine::{DatabaseFiles, Host};
 use prt_program::Refusal;
-use prt_unused::{Unused, unused, unused_text};
 use std::alloc::Global;
 use std::io::Write;
 
@@ -77,8 +77,15 @@ pub(crate) fn search<H: Host>(
     errors: &mut H::Errors,
 ) -> u8
     ensures status { (result ≡ DONE) ⊎ ((result ≡ REFUSED) ⊎ (result ≡ FAULT)) }
-    ensures found { (result ≡ DONE) ⊎ (result ≡ REFUSED) → IsFoundOf H.Store.Store H.Opener.DatabaseOpener (sources_of H.Files.opens H.Files.Opened.remaining databases.old.files.now H.Net.reaches H.Net.Stream.remaining databases.old.rt (H.Input.remaining input.old)) databases.old.machine databases.new.machine source.now result (IsSearched (H.Output.contents output.old) (H.Output.contents output.new) result) }
-    ensures at_most { IsFoundAtMost H.Store.Store H.Opener.DatabaseOpener (sources_of H.Files.opens H.Files.Opened.remaining databases.old.files.now H.Net.reaches H.Net.Stream.remaining databases.old.rt (H.Input.remaining input.old)) databases.old.machine databases.new.machine (H.Output.contents output.old) (H.Output.contents output.new) source.now (IsSearchedAtMost (H.Output.contents output.old) (H.Output.contents output.new)) }
+    ensures found { (result ≡ DONE) ⊎ (result ≡ REFUSED) →
+        IsFoundOf H.Store.Store H.Opener.DatabaseOpener
+        (sources_of H.Files.opens H.Files.Opened.remaining databases.old.files.now H.Net.reaches H.Net.Stream.remaining databases.old.rt
+        (H.Input.remaining input.old)) databases.old.machine databases.new.machine source.now result
+        (IsSearched (H.Output.contents output.old) (H.Output.contents output.new) result) }
+    ensures at_most { IsFoundAtMost H.Store.Store H.Opener.DatabaseOpener
+        (sources_of H.Files.opens H.Files.Opened.remaining databases.old.files.now H.Net.reaches H.Net.Stream.remaining databases.old.rt
+        (H.Input.remaining input.old)) databases.old.machine databases.new.machine (H.Output.contents output.old)
+        (H.Output.contents output.new) source.now (IsSearchedAtMost (H.Output.contents output.old) (H.Output.contents output.new)) }
 {
     let tables = match tables_at(databases, alloc, source, input, output, errors) {
         Ok(tables) => tables,

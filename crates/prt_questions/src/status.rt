@@ -68,9 +68,15 @@ pub(crate) fn show_status<N: LocalNet, W: Write, E: Write>(
     errors: &mut E,
 ) -> u8
     ensures status { (result ≡ DONE) ⊎ ((result ≡ CLOSED) ⊎ (result ≡ FAULT)) }
-    ensures whole { result ≡ DONE → (said : List ℕ) × IsReport N.reaches N.Stream.remaining rt.now (Folder inspecting.now.folder) said × Appends (W.contents output.old) (W.contents output.new) (status_text inspecting.now.form said) × (is_closed said ≡ false) }
-    ensures closed { result ≡ CLOSED → (said : List ℕ) × IsReport N.reaches N.Stream.remaining rt.now (Folder inspecting.now.folder) said × Appends (W.contents output.old) (W.contents output.new) (status_text inspecting.now.form said) × (is_closed said ≡ true) }
-    ensures part { (W.contents output.new ≡ W.contents output.old) ⊎ ((said : List ℕ) × IsReport N.reaches N.Stream.remaining rt.now (Folder inspecting.now.folder) said × IsCutOff (status_text inspecting.now.form said) (W.contents output.old) (W.contents output.new)) }
+    ensures whole { result ≡ DONE →
+        (said : List ℕ) × IsReport N.reaches N.Stream.remaining rt.now (Folder inspecting.now.folder) said
+        × Appends (W.contents output.old) (W.contents output.new) (status_text inspecting.now.form said) × (is_closed said ≡ false) }
+    ensures closed { result ≡ CLOSED →
+        (said : List ℕ) × IsReport N.reaches N.Stream.remaining rt.now (Folder inspecting.now.folder) said
+        × Appends (W.contents output.old) (W.contents output.new) (status_text inspecting.now.form said) × (is_closed said ≡ true) }
+    ensures part { (W.contents output.new ≡ W.contents output.old)
+        ⊎ ((said : List ℕ) × IsReport N.reaches N.Stream.remaining rt.now (Folder inspecting.now.folder) said
+        × IsCutOff (status_text inspecting.now.form said) (W.contents output.old) (W.contents output.new)) }
 {
     let folder = inspecting.folder;
     let said = match read_whole_status(rt, alloc, folder) {

@@ -108,7 +108,8 @@ fn end_of(refusal: Option<Refusal>) -> ScriptEnd
 
 /// Writes a reply that says this of the commands, and returns how the script ended.
 fn write_verdict<W: Write>(reply: &[u8], refusal: Option<Refusal>, output: &mut W) -> ScriptEnd
-    ensures { (told : List Reply) (count : ℕ) → told ≢ [] → reply.now ≡ replies_text told → IsVerdictOf count refusal told → EndsWith told (W.contents output.old) (W.contents output.new) result }
+    ensures { (told : List Reply) (count : ℕ) → told ≢ [] → reply.now ≡ replies_text told → IsVerdictOf count refusal told →
+        EndsWith told (W.contents output.old) (W.contents output.new) result }
 {
     let end = end_of(refusal);
     if write_bytes(output, reply) {
@@ -131,7 +132,8 @@ fn send_commands<N: LocalNet, W: Write>(
 ) -> Result<ScriptEnd, ServerError>
     requires quiet { IsQuiet read.now.end }
     requires some { read.now.commands.items ≢ [] }
-    ensures sent { IfOk result (IsAnsweredBy (IsAtomicReply N.reaches N.Stream.remaining rt.now place.now) read.now.commands.items (W.contents output.old) (W.contents output.new)) }
+    ensures sent { IfOk result (IsAnsweredBy (IsAtomicReply N.reaches N.Stream.remaining rt.now place.now) read.now.commands.items
+        (W.contents output.old) (W.contents output.new)) }
     ensures unwritten { OnErr result (W.contents output.new ≡ W.contents output.old) }
 {
     let commands = &read.commands;
@@ -179,7 +181,8 @@ fn collect<R: Read + Drop, W: Write, O: Observer>(
     output: &mut W,
     observer: &mut O,
 ) -> Result<CommandsRead, Fault>
-    ensures read { IfOk result (λ read. (reader : Option (List ℕ)) × ReadIs read.commands.items (R.remaining input) reader (W.contents output.old) (W.contents output.new) read.end) }
+    ensures read { IfOk result (λ read.
+        (reader : Option (List ℕ)) × ReadIs read.commands.items (R.remaining input) reader (W.contents output.old) (W.contents output.new) read.end) }
     ensures fault { IfErr result (λ fault. fault ≡ Opening NoMemory) }
     ensures unwritten { OnErr result (W.contents output.new ≡ W.contents output.old) }
 {
@@ -222,7 +225,9 @@ fn collect_script<'a, H: Streams, E: Write + Drop, K: Clock + Drop>(
     output: &mut H::Output,
     messages: &mut Messages<'a, E, K>,
 ) -> Result<CommandsRead, Fault>
-    ensures read { IfOk result (IsReadOf (IsRead (IsFileOf H.Files.opens H.Files.Opened.remaining files.now) (H.Input.remaining input.old) (path_of file.entry)) (H.Output.contents output.old) (H.Output.contents output.new)) }
+    ensures read { IfOk result (IsReadOf
+        (IsRead (IsFileOf H.Files.opens H.Files.Opened.remaining files.now) (H.Input.remaining input.old) (path_of file.entry))
+        (H.Output.contents output.old) (H.Output.contents output.new)) }
     ensures fault { IfErr result (λ fault. (fault ≡ Opening ReadFault) ⊎ (fault ≡ Opening NoMemory)) }
     ensures unwritten { OnErr result (H.Output.contents output.new ≡ H.Output.contents output.old) }
 {
@@ -245,8 +250,13 @@ fn submit_read<'a, H: Streams, N: LocalNet, E: Write + Drop, K: Clock + Drop>(
     output: &mut H::Output,
     messages: &mut Messages<'a, E, K>,
 ) -> u8
-    ensures run { IsSubmitted (sources_of H.Files.opens H.Files.Opened.remaining files.now N.reaches N.Stream.remaining rt.now (H.Input.remaining input.old)) submitting.now.server (path_of submitting.now.file) (H.Output.contents output.old) (H.Output.contents output.new) result }
-    ensures whole { result ≡ DONE → IsAllMade (sources_of H.Files.opens H.Files.Opened.remaining files.now N.reaches N.Stream.remaining rt.now (H.Input.remaining input.old)) submitting.now.server (path_of submitting.now.file) (H.Output.contents output.old) (H.Output.contents output.new) }
+    ensures run { IsSubmitted (sources_of H.Files.opens H.Files.Opened.remaining files.now N.reaches N.Stream.remaining rt.now
+        (H.Input.remaining input.old)) submitting.now.server (path_of submitting.now.file) (H.Output.contents output.old)
+        (H.Output.contents output.new) result }
+    ensures whole { result ≡ DONE →
+        IsAllMade (sources_of H.Files.opens H.Files.Opened.remaining files.now N.reaches N.Stream.remaining rt.now
+        (H.Input.remaining input.old)) submitting.now.server (path_of submitting.now.file) (H.Output.contents output.old)
+        (H.Output.contents output.new) }
 {
     let read = match collect_script::<H, _, _>(
         files,
@@ -288,8 +298,13 @@ pub fn submit_script<H: Streams, N: LocalNet>(
     output: &mut H::Output,
     errors: &mut H::Errors,
 ) -> u8
-    ensures run { IsSubmitted (sources_of H.Files.opens H.Files.Opened.remaining files.now N.reaches N.Stream.remaining rt.now (H.Input.remaining input.old)) submitting.now.server (path_of submitting.now.file) (H.Output.contents output.old) (H.Output.contents output.new) result }
-    ensures whole { result ≡ DONE → IsAllMade (sources_of H.Files.opens H.Files.Opened.remaining files.now N.reaches N.Stream.remaining rt.now (H.Input.remaining input.old)) submitting.now.server (path_of submitting.now.file) (H.Output.contents output.old) (H.Output.contents output.new) }
+    ensures run { IsSubmitted (sources_of H.Files.opens H.Files.Opened.remaining files.now N.reaches N.Stream.remaining rt.now
+        (H.Input.remaining input.old)) submitting.now.server (path_of submitting.now.file) (H.Output.contents output.old)
+        (H.Output.contents output.new) result }
+    ensures whole { result ≡ DONE →
+        IsAllMade (sources_of H.Files.opens H.Files.Opened.remaining files.now N.reaches N.Stream.remaining rt.now
+        (H.Input.remaining input.old)) submitting.now.server (path_of submitting.now.file) (H.Output.contents output.old)
+        (H.Output.contents output.new) }
 {
     let is_told = submitting.is_verbose || errors.is_terminal();
     let mut messages = Messages::new(alloc, &mut *errors, files);

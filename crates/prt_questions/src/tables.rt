@@ -41,9 +41,12 @@ fn database_tables<H: Host>(
     output: &mut H::Output,
     errors: &mut H::Errors,
 ) -> Result<Tables, u8>
-    ensures read { IfOk result (λ tables. IsAskedAt H.Store.Store H.Opener.DatabaseOpener databases.old.machine databases.new.machine path.now (λ state. tables.version ≡ state)) }
+    ensures read { IfOk result (λ tables.
+        IsAskedAt H.Store.Store H.Opener.DatabaseOpener databases.old.machine databases.new.machine path.now (λ state. tables.version ≡ state)) }
     ensures there { OnOk result (H.Opener.is_there databases.old.machine path.now) }
-    ensures unread { IfErr result (λ status. IsNotOpened H.Store.Store H.Opener.DatabaseOpener databases.old.machine databases.new.machine Wanted.Ours path.now ⊎ IsAskedAt H.Store.Store H.Opener.DatabaseOpener databases.old.machine databases.new.machine path.now (λ state. Unit {0})) }
+    ensures unread { IfErr result (λ status.
+        IsNotOpened H.Store.Store H.Opener.DatabaseOpener databases.old.machine databases.new.machine Wanted.Ours path.now
+        ⊎ IsAskedAt H.Store.Store H.Opener.DatabaseOpener databases.old.machine databases.new.machine path.now (λ state. Unit {0})) }
     ensures left { IfOk result (λ tables. (tables.left ≡ DONE) ⊎ (tables.left ≡ REFUSED)) }
     ensures fault { IfErr result (λ status. status ≡ FAULT) }
     ensures unwritten { H.Output.contents output.new ≡ H.Output.contents output.old }
@@ -105,7 +108,10 @@ fn script_tables<H: Streams>(
     output: &mut H::Output,
     errors: &mut H::Errors,
 ) -> Result<Tables, u8>
-    ensures read { IfOk result (λ tables. (made : AcceptedOf) × (text : List ℕ) × IsRead (IsFileOf H.Files.opens H.Files.Opened.remaining files.now) (H.Input.remaining input.old) (path_of file.entry) text × IsExecuted made text × (tables.left ≡ DONE → AreKernels made.left.items) × (tables.version ≡ made.version)) }
+    ensures read { IfOk result (λ tables.
+        (made : AcceptedOf) × (text : List ℕ)
+        × IsRead (IsFileOf H.Files.opens H.Files.Opened.remaining files.now) (H.Input.remaining input.old) (path_of file.entry) text
+        × IsExecuted made text × (tables.left ≡ DONE → AreKernels made.left.items) × (tables.version ≡ made.version)) }
     ensures rest { OnOk result (HasLeft (rest_after (path_of file.entry)) (H.Input.remaining input.old) (H.Input.remaining input.new)) }
     ensures left { IfOk result (λ tables. (tables.left ≡ DONE) ⊎ (tables.left ≡ REFUSED)) }
     ensures fault { IfErr result (λ status. status ≡ FAULT) }
@@ -134,9 +140,15 @@ pub(crate) fn tables_at<H: Host>(
     output: &mut H::Output,
     errors: &mut H::Errors,
 ) -> Result<Tables, u8>
-    ensures read { IfOk result (λ tables. HaveTables H.Store.Store H.Opener.DatabaseOpener (sources_of H.Files.opens H.Files.Opened.remaining databases.old.files.now H.Net.reaches H.Net.Stream.remaining databases.old.rt (H.Input.remaining input.old)) databases.old.machine databases.new.machine source.now tables.left tables.version) }
+    ensures read { IfOk result (λ tables.
+        HaveTables H.Store.Store H.Opener.DatabaseOpener
+        (sources_of H.Files.opens H.Files.Opened.remaining databases.old.files.now H.Net.reaches H.Net.Stream.remaining databases.old.rt
+        (H.Input.remaining input.old)) databases.old.machine databases.new.machine source.now tables.left tables.version) }
     ensures rest { OnOk result (HasLeft (rest_by source.now) (H.Input.remaining input.old) (H.Input.remaining input.new)) }
-    ensures unread { IfErr result (λ status. IsNotRead H.Store.Store H.Opener.DatabaseOpener (sources_of H.Files.opens H.Files.Opened.remaining databases.old.files.now H.Net.reaches H.Net.Stream.remaining databases.old.rt (H.Input.remaining input.old)) databases.old.machine databases.new.machine source.now) }
+    ensures unread { IfErr result (λ status.
+        IsNotRead H.Store.Store H.Opener.DatabaseOpener
+        (sources_of H.Files.opens H.Files.Opened.remaining databases.old.files.now H.Net.reaches H.Net.Stream.remaining databases.old.rt
+        (H.Input.remaining input.old)) databases.old.machine databases.new.machine source.now) }
     ensures left { IfOk result (λ tables. (tables.left ≡ DONE) ⊎ (tables.left ≡ REFUSED)) }
     ensures fault { IfErr result (λ status. status ≡ FAULT) }
     ensures unwritten { H.Output.contents output.new ≡ H.Output.contents output.old }

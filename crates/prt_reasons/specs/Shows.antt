@@ -51,5 +51,6 @@ OfOurs P db = IsFormat2 db.schema → IsDatabase db → P db
 -- Nothing is changed.
 pub record Reads {S X V : Type 0} (g : Ghosts S) (seen : X → V) (Spells : Database → V → Type 0) (old new : Held S) (result : Result X Refusal) : Type 0 where
   pub ok : HasCleanDisk (state g new) → IsReadable (state g old) → IfOk result (λ value. Spells (state g old).now (seen value))
-  pub damaged : HasCleanDisk (state g new) → IsReadable (state g old) → IfErr result (λ reason. reason ≡ Damaged → (value : V) → Spells (state g old).now value → ⊥)
+  pub damaged : HasCleanDisk (state g new) → IsReadable (state g old) →
+      IfErr result (λ reason. reason ≡ Damaged → (value : V) → Spells (state g old).now value → ⊥)
   pub only : ReadsOnly g old new result

@@ -1,7 +1,12 @@
 -- The number and the name of each refusal.
 use Rattle.std.specs.Prelude.{ℕ, List, ◌++◌, codes, decimal}
 use Rattle.prt_refusals.specs.declared.refusal.Refusal.{Refusal}
-use Rattle.prt_refusals.specs.declared.refusal.Refusal.TheVariants.{LineTooLong, NotAscii, UnknownObject, UnknownVerb, UnknownWord, MissingValue, Repeated, BadAddress, BadPrefix, HostBits, BadNumber, BadTable, BadName, MissingDestination, NoNextHop, NextHopNotAllowed, TooBroad, SuppressNotAllowed, TooManyCommands, Closed, Exists, NoSuch, Full, CountFull, Busy, NoMemory, StoreFailed, NotPublished, NotFetched, Damaged, OpenFailed, ReadFault, WriteFault, TooManyLines}
+use Rattle.prt_refusals.specs.declared.refusal.Refusal.TheVariants.{LineTooLong, NotAscii, UnknownObject, UnknownVerb, UnknownWord, MissingValue}
+use Rattle.prt_refusals.specs.declared.refusal.Refusal.TheVariants.{Repeated, BadAddress, BadPrefix, HostBits, BadNumber, BadTable, BadName}
+use Rattle.prt_refusals.specs.declared.refusal.Refusal.TheVariants.{MissingDestination, NoNextHop, NextHopNotAllowed, TooBroad, SuppressNotAllowed}
+use Rattle.prt_refusals.specs.declared.refusal.Refusal.TheVariants.{TooManyCommands, Closed, Exists, NoSuch, Full, CountFull, Busy, NoMemory}
+use Rattle.prt_refusals.specs.declared.refusal.Refusal.TheVariants.{StoreFailed, NotPublished, NotFetched, Damaged, OpenFailed, ReadFault}
+use Rattle.prt_refusals.specs.declared.refusal.Refusal.TheVariants.{WriteFault, TooManyLines}
 
 -- the number of a refusal, and its name
 abbrev pub entry_of : Refusal → ℕ × List ℕ

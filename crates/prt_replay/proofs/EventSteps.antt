@@ -11,7 +11,7 @@ use Rattle.prt_command.specs.Requests.{refuse_if}
 use Rattle.prt_command.specs.Then.{◌>>=◌, map_ok}
 use Rattle.prt_replay.specs.ReadEvents.{and_events, contents, events_of, events_of_lines, line_event, longest_replay, most_events}
 use Rattle.prt_replay.specs.ReadSteps.{with_lines}
-use Rattle.prt_world.specs.declared.event.Event.{Event}
+use Rattle.prt_replay.specs.declared.event.Event.{Event}
 
 abbrev Events : Type 0
 Events = Result (List Event) Refusal

@@ -12,17 +12,17 @@ use Rattle.prt_grace.specs.declared.place.PlaceState.TheVariants as places
 use Rattle.prt_rule.specs.declared.packet.Packet.{Packet}
 use Rattle.prt_version.specs.Change.{fold}
 use Rattle.prt_version.specs.State.{State}
-use Rattle.prt_world.specs.Durability.{state_after}
+use Rattle.prt_replay.specs.Durability.{state_after}
 use Rattle.prt_replay.specs.Machine as machine
 use Rattle.prt_replay.specs.Machine.{MachineState, MachineStep, SeatState, empty_seat, machine_outcomes, machine_step, opened, seat_of, seats_below}
 use Rattle.prt_replay.specs.declared.stage.Stage.TheVariants as stages
-use Rattle.prt_world.specs.World as world
-use Rattle.prt_world.specs.World.{LookerState, Phase, Committed, Published, Noted, Closed, Stopped, Step, World, announced_by, kept, looker_state, offline, online, outcomes_from, published_version, start, step, version}
-use Rattle.prt_world.specs.declared.outcome.Outcome.TheVariants as outcomes
-use Rattle.prt_world.proofs.History.{IsServed}
-use Rattle.prt_world.proofs.KeptVersions.{kept_count, other_number, same_number}
-use Rattle.prt_world.proofs.Phases.{Holds, Phased, shown_version, version_kept}
-use Rattle.prt_world.proofs.SideBySide.{map_set_same, zip_get, zip_set}
+use Rattle.prt_replay.specs.World as world
+use Rattle.prt_replay.specs.World.{LookerState, Phase, Committed, Published, Noted, Closed, Stopped, Step, World, announced_by, kept, looker_state, offline, online, outcomes_from, published_version, start, step, version}
+use Rattle.prt_replay.specs.declared.outcome.Outcome.TheVariants as outcomes
+use Rattle.prt_replay.proofs.History.{IsServed}
+use Rattle.prt_replay.proofs.KeptVersions.{kept_count, other_number, same_number}
+use Rattle.prt_replay.proofs.Phases.{Holds, Phased, shown_version, version_kept}
+use Rattle.prt_replay.proofs.SideBySide.{map_set_same, zip_get, zip_set}
 use Rattle.prt_replay.proofs.Simulation.{AreLookers, SimulatesStep, IsSeatOf, IsUnderWay, Simulates, moved, shown_count, stage_of, stays_put, unnoted}
 
 -- ---- opened again

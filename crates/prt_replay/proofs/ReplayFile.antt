@@ -13,7 +13,7 @@ use Rattle.prt_replay.specs.Replay.{Finds, IsAllOf, input_events}
 use Rattle.prt_replies.proofs.Known.{Gives, consumes_more, consumes_nothing, gives_all, gives_beyond, gives_had, gives_rest, left_of}
 use Rattle.prt_replies.specs.Input.{Input, end_of_input, is_fault, read_fault}
 use Rattle.prt_replay.specs.ReadEvents.{contents, events_of, events_of_lines, longest_replay, most_events}
-use Rattle.prt_world.specs.declared.event.Event.{Event}
+use Rattle.prt_replay.specs.declared.event.Event.{Event}
 
 -- what a reader gave is all that it had
 all_of : (a b : Option (List ℕ)) (input : Input) (unread beyond : List ℕ) → (input.ending ≡ end_of_input → beyond ≡ []) → Gives a b input.bytes unread beyond → IsAllOf a input

@@ -18,20 +18,20 @@ use Rattle.prt_version.specs.Accepted.{refusal_all}
 use Rattle.prt_version.specs.Change.{fold}
 use Rattle.prt_version.specs.State.{State}
 use Rattle.prt_version.proofs.Folds.{accepted_all, count_fold}
-use Rattle.prt_world.specs.Durability.{state_after}
+use Rattle.prt_replay.specs.Durability.{state_after}
 use Rattle.prt_replay.specs.Machine as machine
 use Rattle.prt_replay.specs.Machine.{LookersState, MachineState, MachineStep, SeatState, machine_outcomes, machine_step, opened}
 use Rattle.prt_replay.specs.declared.stage.Stage.{Stage}
 use Rattle.prt_replay.specs.declared.stage.Stage.TheVariants as stages
-use Rattle.prt_world.specs.World as world
-use Rattle.prt_world.specs.World.{LookerState, Phase, Ready, Prepared, Committed, Published, Noted, Closed, Stopped, Step, World, announced_by, kept, offline, online, outcomes_from, published_version, start, step, version}
-use Rattle.prt_world.specs.declared.event.Fate.{Fate}
-use Rattle.prt_world.specs.declared.event.Fate.TheVariants.{Kept}
-use Rattle.prt_world.specs.declared.outcome.Outcome.TheVariants as outcomes
-use Rattle.prt_world.proofs.History.{IsServed, same_state}
-use Rattle.prt_world.proofs.KeptVersions.{kept_count}
-use Rattle.prt_world.proofs.SideBySide.{all_pass, none_pass}
-use Rattle.prt_world.proofs.Phases.{Holds, Phased, settled_version, shown_version}
+use Rattle.prt_replay.specs.World as world
+use Rattle.prt_replay.specs.World.{LookerState, Phase, Ready, Prepared, Committed, Published, Noted, Closed, Stopped, Step, World, announced_by, kept, offline, online, outcomes_from, published_version, start, step, version}
+use Rattle.prt_replay.specs.declared.event.Fate.{Fate}
+use Rattle.prt_replay.specs.declared.event.Fate.TheVariants.{Kept}
+use Rattle.prt_replay.specs.declared.outcome.Outcome.TheVariants as outcomes
+use Rattle.prt_replay.proofs.History.{IsServed, same_state}
+use Rattle.prt_replay.proofs.KeptVersions.{kept_count}
+use Rattle.prt_replay.proofs.SideBySide.{all_pass, none_pass}
+use Rattle.prt_replay.proofs.Phases.{Holds, Phased, settled_version, shown_version}
 
 -- ---- the relation
 

@@ -11,16 +11,16 @@ use Rattle.prt_grace.specs.declared.limits.TheConstants.{MOST_RETIRED}
 use Rattle.prt_version.specs.State.{State, opening_state}
 use Rattle.prt_replay.specs.Machine as machine
 use Rattle.prt_replay.specs.Machine.{MachineState, MachineStep, machine_outcomes, machine_step, opened, seat_of}
-use Rattle.prt_world.specs.World as world
-use Rattle.prt_world.specs.World.{Phase, Ready, Prepared, Committed, Published, Noted, Closed, Stopped, Step, World, announced_by, looker_state, outcomes_from, start, step}
-use Rattle.prt_world.specs.declared.event.Event.{Event}
-use Rattle.prt_world.specs.declared.event.Event.TheVariants as events
-use Rattle.prt_world.specs.declared.outcome.Outcome.{Outcome}
-use Rattle.prt_world.specs.declared.outcome.Outcome.TheVariants as outcomes
-use Rattle.prt_world.proofs.History.{not_retired, stays}
+use Rattle.prt_replay.specs.World as world
+use Rattle.prt_replay.specs.World.{Phase, Ready, Prepared, Committed, Published, Noted, Closed, Stopped, Step, World, announced_by, looker_state, outcomes_from, start, step}
+use Rattle.prt_replay.specs.declared.event.Event.{Event}
+use Rattle.prt_replay.specs.declared.event.Event.TheVariants as events
+use Rattle.prt_replay.specs.declared.outcome.Outcome.{Outcome}
+use Rattle.prt_replay.specs.declared.outcome.Outcome.TheVariants as outcomes
+use Rattle.prt_replay.proofs.History.{not_retired, stays}
 use Rattle.prt_replay.proofs.LookerSteps.{acknowledge_simulates, all_offline, announce_simulates, fail_publication_simulates, fetch_simulates, look_simulates, note_simulates, offline_simulates, online_simulates, publish_simulates, reopen_simulates, seat_here, tells}
-use Rattle.prt_world.proofs.Phases.{Holds, looker_served, reopened_holds, start_holds, step_holds}
-use Rattle.prt_world.proofs.SideBySide.{all_pass}
+use Rattle.prt_replay.proofs.Phases.{Holds, looker_served, reopened_holds, start_holds, step_holds}
+use Rattle.prt_replay.proofs.SideBySide.{all_pass}
 use Rattle.prt_replay.proofs.Simulation.{SimulatesStep, IsUnderWay, Simulates, call_simulates, fail_simulates, stage_of, stays_put, stop_simulates, submit_all_simulates, tops, tops_high}
 
 -- ---- reclaiming

@@ -2,7 +2,8 @@
 use Rattle.std.specs.Prelude.{if◌then◌else◌, List, [], ◌∷◌, Option, Some, None, bytes_eq, codes}
 use Rattle.prt_addr.specs.Word.{Word}
 use Rattle.prt_replay.specs.declared.words.EventWord.{EventWord}
-use Rattle.prt_replay.specs.declared.words.EventWord.TheVariants.{Submit, SubmitAll, Call, Fail, Publish, PublishFail, Note, Ack, Online, Fetch, Announce, Offline, Look, Reclaim, Stop, Reopen}
+use Rattle.prt_replay.specs.declared.words.EventWord.TheVariants.{Submit, SubmitAll, Call, Fail, Publish, PublishFail, Note, Ack, Online, Fetch}
+use Rattle.prt_replay.specs.declared.words.EventWord.TheVariants.{Announce, Offline, Look, Reclaim, Stop, Reopen}
 
 abbrev pub event_words : List (Word × EventWord)
 event_words =

@@ -8,7 +8,18 @@ use Rattle.prt_version.specs.declared.answer.Verdict.TheVariants as verdicts
 
 -- default dev eth0
 abbrev pub default_route : Route
-default_route = record { table = 254; prefix = record { bits = 0; len = 0 }; metric = 0; kind = Unicast; via = None; dev = Some (codes "eth0"); src = None; proto = 3; scope = 253 }
+default_route = record {
+  table = 254;
+  prefix = record { bits = 0; len = 0 };
+  metric = 0;
+  kind = Unicast;
+  via = None;
+  dev =
+      Some (codes "eth0");
+  src = None;
+  proto = 3;
+  scope = 253;
+}
 
 -- the packet of `route get` with this address alone
 abbrev pub get : ℕ → Packet

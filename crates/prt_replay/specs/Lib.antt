@@ -1,3 +1,5 @@
+pub mod World
+pub mod Durability
 pub mod EventWords
 pub mod ReadEvents
 pub mod ReadSteps

@@ -1,5 +1,6 @@
 -- What a replay keeps, and what it computes: the registry and the lookers' places in it, and versions.
-use Rattle.std.specs.Prelude.{◌≡◌, ℕ, zero, suc, ◌-◌, ◌<◌, ◌&&◌, ◌++◌, nat_lt, Bool, true, false, if◌then◌else◌, List, [], ◌∷◌, length, map, replicate, slice_index_or, slice_set, Option, Some, None}
+use Rattle.std.specs.Prelude.{◌≡◌, ℕ, zero, suc, ◌-◌, ◌<◌, ◌&&◌, ◌++◌, nat_lt, Bool, true, false, if◌then◌else◌, List, [], ◌∷◌, length, map}
+use Rattle.std.specs.Prelude.{replicate, slice_index_or, slice_set, Option, Some, None}
 use Rattle.prt_refusals.specs.declared.refusal.Refusal.{Refusal}
 use Rattle.prt_refusals.specs.declared.refusal.Refusal.TheVariants as refusals
 use Rattle.prt_refusals.specs.declared.refusal.StoreCall.TheVariants as calls
@@ -14,13 +15,13 @@ use Rattle.prt_version.specs.Change.{fold}
 use Rattle.prt_version.specs.State.{State}
 use Rattle.prt_replay.specs.declared.stage.Stage.{Stage}
 use Rattle.prt_replay.specs.declared.stage.Stage.TheVariants.{Ready, Prepared, Committed, Published, Noted, Closed, Stopped}
-use Rattle.prt_world.specs.World.{answer_by}
-use Rattle.prt_world.specs.declared.event.Event.{Event}
-use Rattle.prt_world.specs.declared.event.Event.TheVariants as events
-use Rattle.prt_world.specs.declared.event.Fate.{Fate}
-use Rattle.prt_world.specs.declared.event.Fate.TheVariants.{Kept}
-use Rattle.prt_world.specs.declared.outcome.Outcome.{Outcome}
-use Rattle.prt_world.specs.declared.outcome.Outcome.TheVariants as outcomes
+use Rattle.prt_replay.specs.World.{answer_by}
+use Rattle.prt_replay.specs.declared.event.Event.{Event}
+use Rattle.prt_replay.specs.declared.event.Event.TheVariants as events
+use Rattle.prt_replay.specs.declared.event.Fate.{Fate}
+use Rattle.prt_replay.specs.declared.event.Fate.TheVariants.{Kept}
+use Rattle.prt_replay.specs.declared.outcome.Outcome.{Outcome}
+use Rattle.prt_replay.specs.declared.outcome.Outcome.TheVariants as outcomes
 
 -- ---- lookers
 
@@ -61,7 +62,11 @@ sit lookers looker announced held = record {
 
 -- the looker holds that
 abbrev pub hold : LookersState → ℕ → Option State → LookersState
-hold lookers looker held = record { registry = lookers.registry; seats = slice_set lookers.seats looker (record { place = (seat_of lookers looker).place; held = held }) }
+hold lookers looker held = record {
+  registry = lookers.registry;
+  seats =
+      slice_set lookers.seats looker (record { place = (seat_of lookers looker).place; held = held });
+}
 
 abbrev pub with_registry : LookersState → RegistryState → LookersState
 with_registry lookers registry = record { registry = registry; seats = lookers.seats }
@@ -110,10 +115,16 @@ idle machine = record { machine = machine; outcome = outcomes.Nothing }
 abbrev pub prepare_all : MachineState → List Command → Option Refusal → Bool → MachineStep
 prepare_all machine commands (Some reason) room = record { machine = machine; outcome = outcomes.Refused reason }
 prepare_all machine commands None false = record { machine = machine; outcome = outcomes.Refused refusals.Busy }
-prepare_all machine commands None true = record { machine = record machine { next = fold machine.published commands; stage = Prepared (length commands) calls.Begin }; outcome = outcomes.Prepared (fold machine.published commands).count }
+prepare_all machine commands None true =
+    record {
+      machine = record machine { next = fold machine.published commands; stage = Prepared (length commands) calls.Begin };
+      outcome =
+          outcomes.Prepared (fold machine.published commands).count;
+    }
 
 abbrev pub submit_by : MachineState → List Command → Stage → MachineStep
-submit_by machine commands Ready = prepare_all machine commands (refusal_all machine.published commands) (nat_lt (length machine.lookers.registry.retired) MOST_RETIRED)
+submit_by machine commands Ready =
+    prepare_all machine commands (refusal_all machine.published commands) (nat_lt (length machine.lookers.registry.retired) MOST_RETIRED)
 submit_by machine commands Closed = record { machine = machine; outcome = outcomes.Refused refusals.Closed }
 submit_by machine commands stage = idle machine
 
@@ -146,7 +157,12 @@ left_by machine Kept (Prepared left calls.Commit) = machine.next
 left_by machine fate stage = machine.disk
 
 abbrev pub fail_by : MachineState → Fate → Stage → MachineStep
-fail_by machine fate (Prepared left next) = record { machine = record machine { disk = left_by machine fate (Prepared left next); stage = Closed }; outcome = outcomes.Refused (refusals.StoreFailed next) }
+fail_by machine fate (Prepared left next) =
+    record {
+      machine = record machine { disk = left_by machine fate (Prepared left next); stage = Closed };
+      outcome =
+          outcomes.Refused (refusals.StoreFailed next);
+    }
 fail_by machine fate stage = idle machine
 
 abbrev pub stop_by : MachineState → Fate → MachineStep
@@ -158,7 +174,8 @@ reopen_by machine Stopped = record { machine = opened machine.disk; outcome = ou
 reopen_by machine stage = idle machine
 
 abbrev pub publish_by : MachineState → Stage → MachineStep
-publish_by machine Committed = record { machine = record machine { published = machine.disk; stage = Published }; outcome = outcomes.Published machine.disk.count }
+publish_by machine Committed =
+    record { machine = record machine { published = machine.disk; stage = Published }; outcome = outcomes.Published machine.disk.count }
 publish_by machine stage = idle machine
 
 abbrev pub fail_publication_by : MachineState → Stage → MachineStep
@@ -170,7 +187,11 @@ abbrev pub can_note : MachineState → Bool
 can_note machine = nat_lt (length machine.lookers.registry.retired) MOST_RETIRED && nat_lt machine.lookers.registry.noted.count machine.published.count
 
 abbrev pub note_if : MachineState → Bool → MachineStep
-note_if machine true = record { machine = record machine { lookers = with_registry machine.lookers (with_noted machine.lookers.registry machine.published); stage = Noted }; outcome = outcomes.Noted machine.published.count }
+note_if machine true = record {
+  machine =
+      record machine { lookers = with_registry machine.lookers (with_noted machine.lookers.registry machine.published); stage = Noted };
+  outcome = outcomes.Noted machine.published.count;
+}
 note_if machine false = idle machine
 
 abbrev pub note_by : MachineState → Stage → MachineStep
@@ -185,16 +206,20 @@ abbrev pub with_lookers : MachineState → LookersState → Outcome → MachineS
 with_lookers machine lookers outcome = record { machine = record machine { lookers = lookers }; outcome = outcome }
 
 abbrev pub online_by : MachineState → ℕ → Option ℕ → MachineStep
-online_by machine looker None = with_lookers machine (sit machine.lookers looker (Some machine.lookers.registry.noted.count) None) (outcomes.Online looker machine.lookers.registry.noted.count)
+online_by machine looker None =
+    with_lookers machine (sit machine.lookers looker (Some machine.lookers.registry.noted.count) None)
+    (outcomes.Online looker machine.lookers.registry.noted.count)
 online_by machine looker (Some announced) = idle machine
 
 abbrev pub fetch_by : MachineState → ℕ → Option ℕ → MachineStep
 fetch_by machine looker None = idle machine
-fetch_by machine looker (Some announced) = with_lookers machine (hold machine.lookers looker (Some machine.published)) (outcomes.Fetched looker machine.published.count)
+fetch_by machine looker (Some announced) =
+    with_lookers machine (hold machine.lookers looker (Some machine.published)) (outcomes.Fetched looker machine.published.count)
 
 abbrev pub announce_by : MachineState → ℕ → Option ℕ → MachineStep
 announce_by machine looker None = idle machine
-announce_by machine looker (Some number) = with_lookers machine (sit machine.lookers looker (Some number) (seat_of machine.lookers looker).held) (outcomes.Announced looker number)
+announce_by machine looker (Some number) =
+    with_lookers machine (sit machine.lookers looker (Some number) (seat_of machine.lookers looker).held) (outcomes.Announced looker number)
 
 abbrev pub offline_by : MachineState → ℕ → Option ℕ → MachineStep
 offline_by machine looker None = idle machine
@@ -205,7 +230,8 @@ look_by machine packet None = idle machine
 look_by machine packet (Some state) = record { machine = machine; outcome = outcomes.Answered (answer_by state packet) }
 
 abbrev pub reclaim_by : MachineState → MachineStep
-reclaim_by machine = with_lookers machine (with_registry machine.lookers (reclaimed machine.lookers.registry)) (outcomes.Reclaimed (length machine.lookers.registry.retired - length (reclaimed machine.lookers.registry).retired))
+reclaim_by machine = with_lookers machine (with_registry machine.lookers (reclaimed machine.lookers.registry))
+    (outcomes.Reclaimed (length machine.lookers.registry.retired - length (reclaimed machine.lookers.registry).retired))
 
 abbrev pub is_stopped_at : Stage → Bool
 is_stopped_at Stopped = true

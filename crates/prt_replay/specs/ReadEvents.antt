@@ -17,12 +17,13 @@ use Rattle.prt_command.specs.declared.request.Request.{Request}
 use Rattle.prt_command.specs.declared.request.Request.TheVariants as requests
 use Rattle.prt_rule.specs.declared.packet.Packet.{Packet}
 use Rattle.prt_replay.specs.EventWords.{event_word}
-use Rattle.prt_world.specs.declared.event.Event.{Event}
-use Rattle.prt_world.specs.declared.event.Event.TheVariants as events
-use Rattle.prt_world.specs.declared.event.Fate.{Fate}
-use Rattle.prt_world.specs.declared.event.Fate.TheVariants.{Kept, Lost}
+use Rattle.prt_replay.specs.declared.event.Event.{Event}
+use Rattle.prt_replay.specs.declared.event.Event.TheVariants as events
+use Rattle.prt_replay.specs.declared.event.Fate.{Fate}
+use Rattle.prt_replay.specs.declared.event.Fate.TheVariants.{Kept, Lost}
 use Rattle.prt_replay.specs.declared.words.EventWord.{EventWord}
-use Rattle.prt_replay.specs.declared.words.EventWord.TheVariants.{Submit, SubmitAll, Call, Fail, Publish, PublishFail, Note, Ack, Online, Fetch, Announce, Offline, Look, Reclaim, Stop, Reopen}
+use Rattle.prt_replay.specs.declared.words.EventWord.TheVariants.{Submit, SubmitAll, Call, Fail, Publish, PublishFail, Note, Ack, Online, Fetch}
+use Rattle.prt_replay.specs.declared.words.EventWord.TheVariants.{Announce, Offline, Look, Reclaim, Stop, Reopen}
 
 -- ---- the values of an event
 

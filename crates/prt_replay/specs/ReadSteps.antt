@@ -5,7 +5,7 @@ use Rattle.prt_refusals.specs.declared.refusal.Refusal.{Refusal}
 use Rattle.prt_command.specs.Then.{map_ok}
 use Rattle.prt_command.specs.declared.request.Command.{Command}
 use Rattle.prt_replay.specs.ReadEvents.{command, events_of_lines, most_events}
-use Rattle.prt_world.specs.declared.event.Event.{Event}
+use Rattle.prt_replay.specs.declared.event.Event.{Event}
 
 -- These words are a command, which was added to others.
 pub record IsAdded (before : List Command) (ws : List Word) (after : List Command) : Type 0 where

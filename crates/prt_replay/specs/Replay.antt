@@ -10,8 +10,8 @@ use Rattle.prt_replies.specs.Written.{Written}
 use Rattle.prt_replies.specs.declared.script_end.ScriptEnd.{ScriptEnd}
 use Rattle.prt_replay.specs.ReadEvents.{events_of, longest_replay}
 use Rattle.prt_replay.specs.TraceText.{trace_text}
-use Rattle.prt_world.specs.World.{outcomes_from, start}
-use Rattle.prt_world.specs.declared.event.Event.{Event}
+use Rattle.prt_replay.specs.World.{outcomes_from, start}
+use Rattle.prt_replay.specs.declared.event.Event.{Event}
 
 -- ---- what a replay file is answered with
 

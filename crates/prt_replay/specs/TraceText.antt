@@ -5,8 +5,9 @@ use Rattle.prt_refusals.specs.declared.refusal.StoreCall.{StoreCall}
 use Rattle.prt_refusals.specs.declared.refusal.StoreCall.TheVariants.{Begin, Write, Count, Commit}
 use Rattle.prt_listing.specs.AnswerText.{answer_text}
 use Rattle.prt_listing.specs.QueryText.{lines_text}
-use Rattle.prt_world.specs.declared.outcome.Outcome.{Outcome}
-use Rattle.prt_world.specs.declared.outcome.Outcome.TheVariants.{Nothing, Prepared, Refused, Called, Published, Noted, Acknowledged, Online, Fetched, Announced, Offline, Answered, Reclaimed, Stopped, Reopened}
+use Rattle.prt_replay.specs.declared.outcome.Outcome.{Outcome}
+use Rattle.prt_replay.specs.declared.outcome.Outcome.TheVariants.{Nothing, Prepared, Refused, Called, Published, Noted, Acknowledged, Online, Fetched}
+use Rattle.prt_replay.specs.declared.outcome.Outcome.TheVariants.{Announced, Offline, Answered, Reclaimed, Stopped, Reopened}
 
 -- a word and a number
 abbrev pub numbered : List ℕ → ℕ → List ℕ

@@ -1,20 +1,23 @@
 //! Lines of replay files with their events, and lines of outcomes, computed with the definitions alone.
 ghost use Rattle.std.specs.Prelude.{◌≡◌, [], ◌∷◌, ◌++◌, Err, None, Ok, Some, codes, replicate};
-ghost use Rattle.prt_refusals.specs.declared.refusal.Refusal.TheVariants.{BadAddress, BadNumber, BadPrefix, Closed, LineTooLong, MissingDestination, MissingValue, NoNextHop, NotAscii, NotPublished, StoreFailed, TooManyLines, UnknownObject, UnknownVerb, UnknownWord};
+ghost use Rattle.prt_refusals.specs.declared.refusal.Refusal.TheVariants.{BadAddress, BadNumber, BadPrefix, Closed, LineTooLong, MissingDestination};
+ghost use Rattle.prt_refusals.specs.declared.refusal.Refusal.TheVariants.{MissingValue, NoNextHop, NotAscii, NotPublished, StoreFailed, TooManyLines};
+ghost use Rattle.prt_refusals.specs.declared.refusal.Refusal.TheVariants.{UnknownObject, UnknownVerb, UnknownWord};
 ghost use Rattle.prt_refusals.specs.declared.refusal.StoreCall.TheVariants.{Begin, Commit, Count, Write};
 ghost use Rattle.prt_command.specs.declared.request.Command.TheVariants.{RouteAdd, RuleFlush};
 ghost use Rattle.prt_replay.specs.Example.{default_route, get, no_answer, route_answer};
 ghost use Rattle.prt_replay.specs.ReadEvents.{events_of, events_of_lines, line_event};
 ghost use Rattle.prt_replay.specs.TraceText.{outcome_text, trace_text};
-ghost use Rattle.prt_world.specs.declared.event.Event.TheVariants as events;
-ghost use Rattle.prt_world.specs.declared.event.Fate.TheVariants.{Kept, Lost};
-ghost use Rattle.prt_world.specs.declared.outcome.Outcome.TheVariants as outcomes;
+ghost use Rattle.prt_replay.specs.declared.event.Event.TheVariants as events;
+ghost use Rattle.prt_replay.specs.declared.event.Fate.TheVariants.{Kept, Lost};
+ghost use Rattle.prt_replay.specs.declared.outcome.Outcome.TheVariants as outcomes;
 
 /// Shows lines with their events.
 pub fn event_lines()
     ensures submit { line_event (codes "submit route add default dev eth0") ≡ Ok (Some (events.Submit (RouteAdd default_route))) }
     ensures submit_after_ip { line_event (codes "\tsubmit ip -4 rule flush # all of them") ≡ Ok (Some (events.Submit RuleFlush)) }
-    ensures submit_all { line_event (codes "submitall route add default dev eth0 ; rule flush") ≡ Ok (Some (events.SubmitAll (RouteAdd default_route ∷ RuleFlush ∷ []))) }
+    ensures submit_all { line_event (codes "submitall route add default dev eth0 ; rule flush")
+        ≡ Ok (Some (events.SubmitAll (RouteAdd default_route ∷ RuleFlush ∷ []))) }
     ensures submit_all_of_one { line_event (codes "submitall ip rule flush # alone") ≡ Ok (Some (events.SubmitAll (RuleFlush ∷ []))) }
     ensures call { line_event (codes "call") ≡ Ok (Some events.Call) }
     ensures fail_kept { line_event (codes "fail kept") ≡ Ok (Some (events.Fail Kept)) }

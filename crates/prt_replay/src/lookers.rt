@@ -1,13 +1,14 @@
 //! The lookers of a replay, each with its place in the registry.
-ghost use Rattle.std.specs.Prelude.{◌≡◌, ◌<◌, ◌≤◌, ◌+◌, ◌++◌, ◌∷◌, [], OnOk, true, None, Some, IfNone, IfOk, IfSome, IsSome, is_some, length, nat_lt, option_map, slice_get};
+ghost use Rattle.std.specs.Prelude.{◌≡◌, ◌<◌, ◌≤◌, ◌+◌, ◌++◌, ◌∷◌, [], OnOk, true, None, Some, IfNone, IfOk, IfSome, IsSome, is_some, length, nat_lt};
+ghost use Rattle.std.specs.Prelude.{option_map, slice_get};
 ghost use Rattle.std.specs.Arc.{arc_value};
 ghost use Rattle.prt_grace.specs.Registry.{new_registry, reclaimed, with_noted};
 ghost use Rattle.prt_grace.specs.declared.limits.TheConstants.{MOST_RETIRED, PLACES};
 ghost use Rattle.prt_replay.specs.Machine.{announceable, announced_at, can_announce, hold, new_lookers, seat_of, sit, with_registry};
 
+use crate::LookerNumber;
 use prt_grace::{PLACES, Place, Registry};
 use prt_version::Version;
-use prt_world::LookerNumber;
 use std::alloc::{AllocError, Global};
 use std::marker::Model;
 use std::sync::Arc;

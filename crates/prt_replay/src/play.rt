@@ -2,7 +2,7 @@
 ghost use Rattle.std.specs.Prelude.{◌≡◌, IfErr, IfOk};
 ghost use Rattle.prt_refusals.specs.declared.refusal.Refusal.TheVariants.{NoMemory};
 ghost use Rattle.prt_replay.specs.Machine.{machine_outcomes};
-ghost use Rattle.prt_world.specs.World.{outcomes_from, start};
+ghost use Rattle.prt_replay.specs.World.{outcomes_from, start};
 
 use crate::machine::Machine;
 use crate::{Event, Refusal, Trace};

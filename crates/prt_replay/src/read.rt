@@ -3,13 +3,14 @@ ghost use Rattle.std.specs.Prelude.{◌≡◌, ◌⊎◌, ◌++◌, Err, IfErr, 
 ghost use Rattle.prt_refusals.specs.declared.refusal.Refusal.TheVariants.{NoMemory};
 ghost use Rattle.prt_command.specs.Reading.{words};
 ghost use Rattle.prt_replay.specs.ReadSteps.{IsAdded};
-ghost use Rattle.prt_replay.specs.ReadEvents.{at_end, command, commands, event_of, fate, line_event, line_request, lone_fate, lone_looker, look, looker, packet, value_word};
+ghost use Rattle.prt_replay.specs.ReadEvents.{at_end, command, commands, event_of, fate, line_event, line_request, lone_fate, lone_looker, look};
+ghost use Rattle.prt_replay.specs.ReadEvents.{looker, packet, value_word};
 
 use crate::words::{EventWord, event_word};
+use crate::{Commands, Event, Fate, LookerNumber};
 use prt_addr::read_number;
 use prt_command::{Command, Packet, Query, Request, is, line_text, next_word, read_text};
 use prt_refusals::Refusal;
-use prt_world::{Commands, Event, Fate, LookerNumber};
 use std::alloc::Global;
 
 /// Takes a value, which has to be there: its word, and the text after it.

@@ -3,7 +3,7 @@ ghost use Rattle.std.specs.Prelude.{◌≡◌, List, Err, MatchResult, Ok, true}
 ghost use Rattle.prt_replay.specs.Replay.{Finds, ReplayIs, fault_by, is_refusal};
 ghost use Rattle.prt_replay.specs.ReadEvents.{events_of};
 ghost use Rattle.prt_replay.specs.Replay.{answer_to};
-ghost use Rattle.prt_world.specs.declared.event.Event.{Event};
+ghost use Rattle.prt_replay.specs.declared.event.Event.{Event};
 
 use crate::play::play_events;
 use crate::replay_file::{LONGEST_REPLAY, first_refused, read_events};

@@ -1,5 +1,6 @@
 //! The events of a replay file.
-ghost use Rattle.std.specs.Prelude.{◌≡◌, ◌<◌, ◌≤◌, ◌+◌, ◌==◌, ◌⊎◌, ℕ, List, [], ◌∷◌, ◌++◌, Err, IfErr, IfSome, MatchOption, MatchResult, Ok, OnOk, Some, length, position};
+ghost use Rattle.std.specs.Prelude.{◌≡◌, ◌<◌, ◌≤◌, ◌+◌, ◌==◌, ◌⊎◌, ℕ, List, [], ◌∷◌, ◌++◌, Err, IfErr, IfSome, MatchOption, MatchResult, Ok, OnOk};
+ghost use Rattle.std.specs.Prelude.{Some, length, position};
 ghost use Rattle.prt_refusals.specs.declared.refusal.Refusal.TheVariants.{NoMemory, TooManyLines};
 ghost use Rattle.prt_replay.specs.ReadEvents.{contents, events_of, refused_from};
 ghost use Rattle.prt_replay.specs.ReadSteps.{with_lines};

@@ -28,7 +28,8 @@ pub fn stop_round_atomic_commit()
 pub fn atomic_commands()
     ensures refused { replay_text (codes "submitall route add default dev eth0 ; route add default dev eth1\ncall\n")
         ≡ codes "error 21 Exists\nnone\n" }
-    ensures acknowledged { replay_text (codes "submitall route add default dev eth0 ; rule add table 7\ncall\ncall\ncall\ncall\ncall\npublish\nnote\nack\nreclaim\n")
+    ensures acknowledged { replay_text
+        (codes "submitall route add default dev eth0 ; rule add table 7\ncall\ncall\ncall\ncall\ncall\npublish\nnote\nack\nreclaim\n")
         ≡ codes "prepared 2\nbegin\nwrite\nwrite\ncount\ncommit\npublished 2\nnoted 2\nok 2\nreclaim 1\n" }
 {}
 
@@ -40,7 +41,8 @@ pub fn grace_period()
 
 /// Lets a store call fail: no command is accepted any more, lookups go on, and the database has to be opened again.
 pub fn failed_write()
-    ensures lost { replay_text (codes "online 0\nfetch 0\nsubmit route add default dev eth0\ncall\ncall\nfail lost\nsubmit rule flush\nlook 0 route get 10.0.0.1\nreopen\n")
+    ensures lost { replay_text
+        (codes "online 0\nfetch 0\nsubmit route add default dev eth0\ncall\ncall\nfail lost\nsubmit rule flush\nlook 0 route get 10.0.0.1\nreopen\n")
         ≡ codes "online 0 0\nfetch 0 0\nprepared 1\nbegin\nwrite\nerror 27 StoreFailed\nerror 20 Closed\nanswer 0 none\nreopen 0\n" }
     ensures kept { replay_text (codes "online 0\nfetch 0\nsubmit route add default dev eth0\ncall\ncall\ncall\nfail kept\nsubmit rule flush\nlook 0 route get 10.0.0.1\nreopen\n")
         ≡ codes "online 0 0\nfetch 0 0\nprepared 1\nbegin\nwrite\ncount\nerror 27 StoreFailed\nerror 20 Closed\nanswer 0 none\nreopen 1\n" }

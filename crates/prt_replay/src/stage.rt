@@ -1,4 +1,4 @@
-use prt_world::StoreCall;
+use prt_refusals::StoreCall;
 
 /// How far the commands that are under way together have come.
 #[derive(Clone, Copy)]

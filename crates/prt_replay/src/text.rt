@@ -3,11 +3,10 @@ ghost use Rattle.std.specs.Prelude.{◌≡◌, ◌++◌, IfErr, IfOk, OnOk, code
 ghost use Rattle.prt_refusals.specs.declared.refusal.Refusal.TheVariants.{NoMemory};
 ghost use Rattle.prt_replay.specs.TraceText.{call_name, numbered, of_looker, outcome_text, trace_text};
 
-use crate::Trace;
+use crate::{LookerNumber, Outcome, Trace};
 use itoa::Buffer;
 use prt_listing::{answer_text, refusal_text};
 use prt_refusals::{Refusal, StoreCall};
-use prt_world::{LookerNumber, Outcome};
 use std::alloc::{AllocError, Global};
 
 /// Appends a text; if memory is refused, none of it.

@@ -14,7 +14,7 @@ pub struct Trace {
 
 impl Model for Trace {
     ghost use Rattle.std.specs.Prelude.{List};
-    ghost use Rattle.prt_world.specs.declared.outcome.Outcome.{Outcome};
+    ghost use Rattle.prt_replay.specs.declared.outcome.Outcome.{Outcome};
 
     ghost Value = { List Outcome };
 

@@ -76,7 +76,8 @@ pub fn refused_line(refusal: Refusal) -> ArrayString<32>
 
 /// Writes some of these bytes by one call, and returns how many; none if the writer takes none or fails.
 fn write_some<W: Write>(writer: &mut W, bytes: &[u8]) -> Option<usize>
-    ensures some { IfSome result (λ count. (0 < count) × (count ≤ length bytes.now) × Appends (W.contents writer.old) (W.contents writer.new) (take count bytes.now)) }
+    ensures some { IfSome result (λ count.
+        (0 < count) × (count ≤ length bytes.now) × Appends (W.contents writer.old) (W.contents writer.new) (take count bytes.now)) }
     ensures none { MatchOption result (Keeps (W.contents writer.old) (W.contents writer.new)) (λ _. ⊤) }
 {
     match writer.write(bytes) {

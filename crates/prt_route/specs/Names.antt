@@ -26,7 +26,8 @@ abbrev pub tables : List (Word × ℕ)
 tables = (codes "local", local_table) ∷ (codes "main", main_table) ∷ (codes "default", default_table) ∷ []
 
 abbrev pub protocols : List (Word × ℕ)
-protocols = (codes "kernel", 2) ∷ (codes "boot", boot_protocol) ∷ (codes "static", 4) ∷ (codes "ra", 9) ∷ (codes "zebra", 11) ∷ (codes "bird", 12) ∷ (codes "dhcp", 16) ∷ (codes "bgp", 186) ∷ (codes "isis", 187) ∷ (codes "ospf", 188) ∷ (codes "rip", 189) ∷ []
+protocols = (codes "kernel", 2) ∷ (codes "boot", boot_protocol) ∷ (codes "static", 4) ∷ (codes "ra", 9) ∷ (codes "zebra", 11)
+    ∷ (codes "bird", 12) ∷ (codes "dhcp", 16) ∷ (codes "bgp", 186) ∷ (codes "isis", 187) ∷ (codes "ospf", 188) ∷ (codes "rip", 189) ∷ []
 
 abbrev pub scopes : List (Word × ℕ)
 scopes = (codes "global", global_scope) ∷ (codes "site", 200) ∷ (codes "link", link_scope) ∷ (codes "host", 254) ∷ (codes "nowhere", 255) ∷ []

@@ -24,36 +24,44 @@ RunsIn g text params old new = IsFormat2 (state g old).now.schema × ((changed :
 
 -- exactly the rows that pass the tests are gone
 abbrev pub DeletesRows : {S : Type 0} → Ghosts S → Word → Table → List Term → Type 0
-DeletesRows {S = S} g text table tests = (old new : Held S) (params : Row) → RunsIn g text params old new → IsKeyed ((state g old).now.trees table.tree) → Deletes table tests params (state g old).now (state g new).now
+DeletesRows {S = S} g text table tests = (old new : Held S) (params : Row) → RunsIn g text params old new →
+    IsKeyed ((state g old).now.trees table.tree) → Deletes table tests params (state g old).now (state g new).now
 
 -- exactly the rules that pass the tests are gone, and their lengths
 abbrev pub DeletesTheRules : {S : Type 0} → Ghosts S → Word → List Term → Type 0
-DeletesTheRules {S = S} g text tests = (old new : Held S) (params : Row) → RunsIn g text params old new → IsKeyed ((state g old).now.trees rule_table.tree) → IsKeyed ((state g old).now.trees suppress_table.tree)
+DeletesTheRules {S = S} g text tests = (old new : Held S) (params : Row) → RunsIn g text params old new →
+    IsKeyed ((state g old).now.trees rule_table.tree) → IsKeyed ((state g old).now.trees suppress_table.tree)
     → DeletesRules tests params (state g old).now (state g new).now
 
 -- the route's row is there, in the place of the one that had its key
 abbrev pub PutsRoute : {S : Type 0} → Ghosts S → Word → Type 0
-PutsRoute {S = S} g text = (old new : Held S) (route : Route) → RunsIn g text (route_row route) old new → AreRouteRows ((state g old).now.trees route_table.tree) → IsKeyed ((state g old).now.trees route_table.tree)
+PutsRoute {S = S} g text = (old new : Held S) (route : Route) → RunsIn g text (route_row route) old new →
+    AreRouteRows ((state g old).now.trees route_table.tree) → IsKeyed ((state g old).now.trees route_table.tree)
     → Puts route (state g old).now (state g new).now
 
 -- the route's row is there beside the others, none of which has its key
 abbrev pub AddsRoute : {S : Type 0} → Ghosts S → Word → Type 0
-AddsRoute {S = S} g text = (old new : Held S) (route : Route) → RunsIn g text (route_row route) old new → AreRouteRows ((state g old).now.trees route_table.tree) → IsKeyed ((state g old).now.trees route_table.tree)
+AddsRoute {S = S} g text = (old new : Held S) (route : Route) → RunsIn g text (route_row route) old new →
+    AreRouteRows ((state g old).now.trees route_table.tree) → IsKeyed ((state g old).now.trees route_table.tree)
     → PutsBeside route (state g old).now (state g new).now
 
 -- the rule's row is there beside the others
 abbrev pub AddsRule : {S : Type 0} → Ghosts S → Word → Type 0
-AddsRule {S = S} g text = (old new : Held S) (rule : Rule) → RunsIn g text (rule_row rule) old new → Adds rule_table (kept_rule rule) (state g old).now (state g new).now
+AddsRule {S = S} g text = (old new : Held S) (rule : Rule) → RunsIn g text (rule_row rule) old new →
+    Adds rule_table (kept_rule rule) (state g old).now (state g new).now
 
 -- the row of `meta` is that of the count
 abbrev pub SetsCount : {S : Type 0} → Ghosts S → Word → Type 0
-SetsCount {S = S} g text = (old new : Held S) (before count : ℕ) → RunsIn g text (count_values count) old new → (state g old).now.trees meta_table.tree ≡ kept_count before ∷ []
+SetsCount {S = S} g text = (old new : Held S) (before count : ℕ) → RunsIn g text (count_values count) old new →
+    (state g old).now.trees meta_table.tree ≡ kept_count before ∷ []
     → Sets meta_table (kept_count count) (state g old).now (state g new).now
 
 -- the row of `meta`, which was that of format 1, is that of format 2
 abbrev pub SetsFormat : {S : Type 0} → Ghosts S → Word → Type 0
-SetsFormat {S = S} g text = (old new : Held S) (count : ℕ) → RunsIn g text [] old new → (state g old).now.trees meta_table.tree ≡ kept_count_1 count ∷ [] → Sets meta_table (kept_count count) (state g old).now (state g new).now
+SetsFormat {S = S} g text = (old new : Held S) (count : ℕ) → RunsIn g text [] old new →
+    (state g old).now.trees meta_table.tree ≡ kept_count_1 count ∷ [] → Sets meta_table (kept_count count) (state g old).now (state g new).now
 
 -- the row of the length is there beside the others
 abbrev pub AddsLength : {S : Type 0} → Ghosts S → Word → Type 0
-AddsLength {S = S} g text = (old new : Held S) (length : RuleLength) → RunsIn g text (suppress_row length) old new → Adds suppress_table (kept_length length) (state g old).now (state g new).now
+AddsLength {S = S} g text = (old new : Held S) (length : RuleLength) → RunsIn g text (suppress_row length) old new →
+    Adds suppress_table (kept_length length) (state g old).now (state g new).now

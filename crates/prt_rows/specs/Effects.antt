@@ -58,8 +58,10 @@ pub record DeletesRules (tests : List Term) (params : Row) (old new : Database) 
   pub sound : (row : Row) → Has (new.trees rule_table.tree) row → Has (old.trees rule_table.tree) row × (passes tests params row ≡ false)
   pub complete : (row : Row) → Has (old.trees rule_table.tree) row → passes tests params row ≡ false → Has (new.trees rule_table.tree) row
   pub keyed : IsKeyed (new.trees rule_table.tree)
-  pub lengths_sound : (row : Row) → Has (new.trees suppress_table.tree) row → Has (old.trees suppress_table.tree) row × IsOfNone tests params (old.trees rule_table.tree) row
-  pub lengths_complete : (row : Row) → Has (old.trees suppress_table.tree) row → IsOfNone tests params (old.trees rule_table.tree) row → Has (new.trees suppress_table.tree) row
+  pub lengths_sound : (row : Row) → Has (new.trees suppress_table.tree) row →
+      Has (old.trees suppress_table.tree) row × IsOfNone tests params (old.trees rule_table.tree) row
+  pub lengths_complete : (row : Row) → Has (old.trees suppress_table.tree) row → IsOfNone tests params (old.trees rule_table.tree) row →
+      Has (new.trees suppress_table.tree) row
   pub lengths_keyed : IsKeyed (new.trees suppress_table.tree)
 
 -- this row is there beside the others
@@ -85,7 +87,8 @@ pub record IsOfFormat1 (db : Database) (count : ℕ) : Type 0 where
 -- If the file was of format 1, its row of `meta` is now that of format 2, with the count that it had. Otherwise nothing has
 -- changed.
 abbrev pub Migrates : Database → Database → Type 0
-Migrates old new = (((count : ℕ) → IsOfFormat1 old count → ⊥) × (new ≡ old)) ⊎ ((count : ℕ) × IsOfFormat1 old count × Sets meta_table (kept_count count) old new)
+Migrates old new = (((count : ℕ) → IsOfFormat1 old count → ⊥) × (new ≡ old))
+    ⊎ ((count : ℕ) × IsOfFormat1 old count × Sets meta_table (kept_count count) old new)
 
 -- a table was made: the schema is this one, its tree is empty, and each table that was there keeps its rows
 pub record Makes (after : Schema) (tree : ℕ) (old new : Database) : Type 0 where

@@ -32,7 +32,8 @@ BeginsWithRoutes schema = (schema ≡ rule_and_route) ⊎ BeginsWithMeta schema
 abbrev pub BeginsWithRules : Schema → Type 0
 BeginsWithRules schema = (schema ≡ rule_alone) ⊎ BeginsWithRoutes schema
 
--- The tables of the file are none, or those that an opening of an empty file had made when it was stopped, or those of format 1 alone, or all four with others after them.
+-- The tables of the file are none, or those that an opening of an empty file had made when it was stopped, or those of format 1
+-- alone, or all four with others after them.
 abbrev pub BeginsFormat2 : Schema → Type 0
 BeginsFormat2 schema = (schema ≡ no_tables) ⊎ BeginsWithRules schema
 

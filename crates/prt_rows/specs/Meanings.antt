@@ -1,4 +1,5 @@
--- What the texts that read and write mean, as commands over terms. `col 0 n` is parameter n + 1; `col 1 n` is the value at place n of a row, whose rowid has place 0.
+-- What the texts that read and write mean, as commands over terms. `col 0 n` is parameter n + 1; `col 1 n` is the value at place
+-- n of a row, whose rowid has place 0.
 use Rattle.std.specs.Prelude.{ℕ, pos, negsuc, false, List, [], ◌∷◌, None, Some, codes, map}
 use Rattle.sqlite.specs.Collation.TheVariants.{Binary}
 use Rattle.sqlite.specs.Command.{Command}
@@ -76,7 +77,8 @@ end_term = op2 (Arith Add) (col 1 2) (op2 (Bits Shr) (lit (Int (pos 4294967296))
 
 abbrev pub is_flushed : List Term
 is_flushed =
-    equals_unless (Int (negsuc 0)) 1 0 ∷ compares Ge (col 1 2) 1 ∷ compares Le (col 1 2) 2 ∷ compares Ge (col 1 3) 3 ∷ compares Le (col 1 3) 4 ∷ compares Gt end_term 5
+    equals_unless (Int (negsuc 0)) 1 0 ∷ compares Ge (col 1 2) 1 ∷ compares Le (col 1 2) 2 ∷ compares Ge (col 1 3) 3
+    ∷ compares Le (col 1 3) 4 ∷ compares Gt end_term 5
     ∷ equals_unless (Int (negsuc 0)) 5 6 ∷ equals_unless (Int (negsuc 0)) 9 7 ∷ equals_unless (Int (negsuc 0)) 10 8 ∷ equals_unless (Text []) 7 9 ∷ []
 
 abbrev pub flush_routes_command : Command

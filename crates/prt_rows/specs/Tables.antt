@@ -56,7 +56,13 @@ abbrev pub key_places : List ℕ
 key_places = 1 ∷ 2 ∷ 3 ∷ 4 ∷ []
 
 abbrev pub route_table : Table
-route_table = record (table_by_id (codes "route") 1 route_columns) { key = None; primary = key_places; uniques = key_places ∷ []; orders = (record { digits = 0 }) ∷ [] }
+route_table = record (table_by_id (codes "route") 1 route_columns) {
+  key = None;
+  primary = key_places;
+  uniques = key_places ∷ [];
+  orders =
+      (record { digits = 0 }) ∷ [];
+}
 
 abbrev pub route_key : Index
 route_key = record { name = codes "sqlite_autoindex_route_1"; tree = 2; table = 1; columns = key_places; order = record { digits = 0 }; is_unique = true }
@@ -70,7 +76,8 @@ suppress_table = record (table_by_id (codes "suppress") 4 suppress_columns) { re
 
 -- the four tables, and others that were made later
 abbrev pub schema_with : List Table → List Index → List View → Schema
-schema_with tables indexes views = record { tables = rule_table ∷ route_table ∷ meta_table ∷ suppress_table ∷ tables; indexes = route_key ∷ indexes; views = views }
+schema_with tables indexes views =
+    record { tables = rule_table ∷ route_table ∷ meta_table ∷ suppress_table ∷ tables; indexes = route_key ∷ indexes; views = views }
 
 -- the four tables
 abbrev pub our_tables : List Table

@@ -5,7 +5,8 @@ ghost use Rattle.sqlite_value.specs.declared.value.Value.TheVariants.{Int};
 ghost use Rattle.sqlite_value.specs.Order.{column};
 ghost use Rattle.prt_addr.specs.Sound.{IsPrefix};
 ghost use Rattle.prt_rows.specs.Decodes.{Decodes};
-ghost use Rattle.prt_rows.specs.Cell.{IsByte, IsNumber, IsOptionalAddr, IsOptionalName, IsWithin, flag, number, optional_addr, optional_name, optional_number, prefix_cells};
+ghost use Rattle.prt_rows.specs.Cell.{IsByte, IsNumber, IsOptionalAddr, IsOptionalName, IsWithin, flag, number, optional_addr, optional_name};
+ghost use Rattle.prt_rows.specs.Cell.{optional_number, prefix_cells};
 
 use prt_addr::{Addr, Prefix};
 use prt_route::{Dev, read_dev};

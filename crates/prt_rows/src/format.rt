@@ -8,7 +8,8 @@ ghost use Rattle.sqlite_schema.specs.declared.schema.Reference.{Reference as Ref
 ghost use Rattle.sqlite.specs.Table.{Table as Declared};
 ghost use Rattle.prt_rows.specs.Format.{BeginsFormat2, HasFormat2, IsFormat2, SuitsFormat2, SuitsName, has_table};
 ghost use Rattle.prt_rows.specs.Others.{AreNotOfRoutes, AreOthers, IsElsewhere, IsOther};
-ghost use Rattle.prt_rows.specs.Tables.{format_1_alone, key_places, meta_table, no_tables, plain_table, route_key, route_table, rule_alone, rule_and_route, rule_table, strict_column, suppress_table, to_rule};
+ghost use Rattle.prt_rows.specs.Tables.{format_1_alone, key_places, meta_table, no_tables, plain_table, route_key, route_table, rule_alone};
+ghost use Rattle.prt_rows.specs.Tables.{rule_and_route, rule_table, strict_column, suppress_table, to_rule};
 
 use crate::column::{META_COLUMNS, ROUTE_COLUMNS, RULE_COLUMNS, SUPPRESS_COLUMNS};
 use sqlite_schema::names::same_name;
@@ -46,7 +47,8 @@ fn are_columns(columns: &[Column], wanted: &[(&str, Kind)]) -> bool
 
 /// Checks whether the table declares nothing except its name, columns, keys and references.
 fn is_unchecked(table: &Table) -> bool
-    ensures { IsTrue result ↔ (table.now ≡ record table.now { checks = []; computed = []; stamps = record { places = []; terms = []; formats = [] }; is_counted = false }) }
+    ensures { IsTrue result ↔ (table.now
+        ≡ record table.now { checks = []; computed = []; stamps = record { places = []; terms = []; formats = [] }; is_counted = false }) }
 {
     table.checks.roots.is_empty()
         && table.computed.is_empty()
@@ -58,7 +60,15 @@ fn is_unchecked(table: &Table) -> bool
 
 /// Checks whether the table declares nothing except its name, columns and keys.
 fn is_plain(table: &Table) -> bool
-    ensures { IsTrue result ↔ (table.now ≡ record table.now { checks = []; references = []; computed = []; stamps = record { places = []; terms = []; formats = [] }; is_counted = false }) }
+    ensures { IsTrue result ↔ (table.now
+        ≡ record table.now {
+          checks = [];
+          references = [];
+          computed = [];
+          stamps =
+              record { places = []; terms = []; formats = [] };
+          is_counted = false;
+        }) }
 {
     table.references.is_empty() && is_unchecked(table)
 }

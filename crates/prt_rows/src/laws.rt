@@ -18,7 +18,8 @@ ghost use Rattle.prt_rows.specs.MetaRow.{IsCount, meta_rows};
 ghost use Rattle.prt_rows.specs.RouteRow.{IsInRange, route_row};
 ghost use Rattle.prt_rows.specs.RuleRow.{IsRule, rule_row};
 ghost use Rattle.prt_rows.specs.Selecting.{IsSelector, selector_row};
-ghost use Rattle.prt_rows.specs.Statements.{delete_route, delete_rule, flush_routes, flush_rules, insert_route, insert_rule, insert_suppress, migrate, put_route, set_count};
+ghost use Rattle.prt_rows.specs.Statements.{delete_route, delete_rule, flush_routes, flush_rules, insert_route, insert_rule, insert_suppress};
+ghost use Rattle.prt_rows.specs.Statements.{migrate, put_route, set_count};
 ghost use Rattle.prt_rows.specs.SuppressRow.{IsLength, suppress_row};
 ghost use Rattle.prt_rows.specs.Tables.{route_table};
 

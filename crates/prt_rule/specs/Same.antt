@@ -26,4 +26,5 @@ is_same_selector a b = is_same_prefix a.from b.from && is_same_prefix a.to b.to 
 
 -- all but the id
 abbrev pub is_same_rule : Rule → Rule → Bool
-is_same_rule a b = a.priority == b.priority && is_same_flag a.inverted b.inverted && is_same_selector a b && is_same_action a.action b.action && option_eq (λ m n. m == n) a.suppress b.suppress
+is_same_rule a b = a.priority == b.priority && is_same_flag a.inverted b.inverted && is_same_selector a b
+    && is_same_action a.action b.action && option_eq (λ m n. m == n) a.suppress b.suppress

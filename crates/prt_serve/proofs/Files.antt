@@ -6,8 +6,8 @@ use Rattle.prt_published.specs.Line.{Begins, Line}
 use Rattle.prt_replies.specs.declared.reply.Reply.{Reply}
 use Rattle.prt_replies.specs.declared.script_end.ScriptEnd.{ScriptEnd}
 use Rattle.prt_refusals.specs.declared.refusal.Refusal.TheVariants.{ReadFault}
-use Rattle.prt_serve.specs.Opening.{is_as_many}
-use Rattle.prt_serve.specs.declared.opening.Announcement.{Announcement}
+use Rattle.prt_serve.specs.Announcement.{is_as_many}
+use Rattle.prt_serve.specs.declared.announcement.Announcement.{Announcement}
 use Rattle.prt_serve.specs.Together.{Comes, FileIs, Follows, IsSubmitted, Outcome, ServesTogether, ToldIs}
 use Rattle.prt_service.specs.Service.{IsWhyNotMade}
 use Rattle.prt_service.specs.declared.submit_error.SubmitError.{SubmitError}

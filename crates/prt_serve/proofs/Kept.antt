@@ -18,7 +18,7 @@ use Rattle.prt_serve.specs.Kept.{HasAnswered, HasExchanged, HasFollowed, HasMade
 use Rattle.prt_serve.specs.Lists.{AllBegin, AreReplies, AreTold, IsTold, reply_on, seen_in, taken_by, taken_in}
 use Rattle.prt_serve.specs.Requests.{Event, refused, seen, service_turn, taken, unanswered, unseen}
 use Rattle.prt_serve.specs.Together.{Comes, Follows, Outcome}
-use Rattle.prt_serve.specs.declared.opening.Announcement.{Announcement}
+use Rattle.prt_serve.specs.declared.announcement.Announcement.{Announcement}
 use Rattle.prt_serve.specs.declared.worker.Job.{Job}
 use Rattle.prt_serve.specs.declared.worker.Kind.{Kind}
 use Rattle.prt_serve.specs.declared.worker.Kind.TheVariants.{InTurn, Together}

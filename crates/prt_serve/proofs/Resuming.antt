@@ -3,8 +3,8 @@ use Rattle.std.proofs.Common.{◌≡◌, ◌+◌, ◌<◌, ◌≤◌, ℕ, List,
 use Rattle.std.proofs.KnownBytes.{Consumes-nil, Consumes-trans, Keeps-refl, prepend_known-nil, prepend_known-read}
 use Rattle.std.proofs.lemmas.List.{drop_all, drop_more}
 use Rattle.std.specs.Io.KnownBytes.{Consumes, Keeps, ReadConsumes, prepend_known}
-use Rattle.prt_serve.specs.Opening.{HasLetGo, Opens, said_line}
-use Rattle.prt_serve.specs.declared.opening.Saying.{Saying}
+use Rattle.prt_serve.specs.Announcement.{HasLetGo, Opens, said_line}
+use Rattle.prt_serve.specs.declared.announcement.Saying.{Saying}
 
 -- once the bytes before are given, a read is one of the reader
 pub read_on : {E : Type 0} (head : List ℕ) (given : ℕ) (old new : Option (List ℕ)) (r : Result ℕ E) (buf : List ℕ) → length head ≤ given → ReadConsumes old new r buf → ReadConsumes (prepend_known (drop given head) old) (prepend_known (drop given head) new) r buf

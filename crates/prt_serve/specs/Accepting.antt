@@ -1,6 +1,6 @@
 -- How accepting at several listeners ends.
-use Rattle.prt_serve.specs.declared.listen.Accepting.{Accepting}
-use Rattle.prt_serve.specs.declared.listen.Accepting.TheVariants.{Ended, Failed, NoWorkers}
+use Rattle.prt_serve.specs.declared.accept_loop.Accepting.{Accepting}
+use Rattle.prt_serve.specs.declared.accept_loop.Accepting.TheVariants.{Ended, Failed, NoWorkers}
 
 -- the worse of two ends
 abbrev pub worse : Accepting → Accepting → Accepting

@@ -14,7 +14,7 @@ use Rattle.prt_replies.specs.declared.script_end.ScriptEnd.{ScriptEnd}
 use Rattle.prt_serve.specs.Jobs.{ServesKind}
 use Rattle.prt_serve.specs.Requests.{Event, number_of, service_turn}
 use Rattle.prt_serve.specs.Together.{Follows, Outcome}
-use Rattle.prt_serve.specs.declared.opening.Announcement.{Announcement}
+use Rattle.prt_serve.specs.declared.announcement.Announcement.{Announcement}
 use Rattle.prt_serve.specs.declared.worker.Kind.{Kind}
 use Rattle.prt_serve.specs.declared.worker.Kind.TheVariants.{InTurn, Together}
 use Rattle.prt_service.specs.Service.{EndsWithAll}
@@ -47,7 +47,8 @@ HasMade line commands (Ok (Some last)) = HasUpTo line last commands
 HasMade line commands came = Unit {0}
 
 -- so it is with what followed the reading of a file
-abbrev pub HasFollowed : (line : Line) (refusal : Option Reply) (announced : Announcement) (known0 known : Line) (commands : List Command) (writer0 writer : Option (List ℕ)) (read end : ScriptEnd) → Follows refusal announced known0 known commands writer0 writer read end → Type 0
+abbrev pub HasFollowed : (line : Line) (refusal : Option Reply) (announced : Announcement) (known0 known : Line) (commands : List Command)
+    (writer0 writer : Option (List ℕ)) (read end : ScriptEnd) → Follows refusal announced known0 known commands writer0 writer read end → Type 0
 HasFollowed line (Some reply) announced known0 known commands writer0 writer read end follows = Unit {0}
 HasFollowed line None announced known0 known commands writer0 writer read end (inl submitted) = HasMade line commands submitted.1.came
 HasFollowed line None announced known0 known commands writer0 writer read end (inr short) = Unit {0}
@@ -55,8 +56,10 @@ HasFollowed line None announced known0 known commands writer0 writer read end (i
 -- ---- sessions
 
 -- the list has what was replied `ok N` in a session of this kind, or to a file, which was served so
-abbrev pub HasAnswered : (line : Line) (kind : Kind) (known0 known : Line) (reader0 reader writer0 writer : Option (List ℕ)) (end : ScriptEnd) → ServesKind kind known0 known reader0 reader writer0 writer end → Type 0
-HasAnswered line InTurn known0 known reader0 reader writer0 writer end served = HasExchanged line (session service_turn known0 served.run.input GoOn served.run.mishaps).exchanges
+abbrev pub HasAnswered : (line : Line) (kind : Kind) (known0 known : Line) (reader0 reader writer0 writer : Option (List ℕ))
+    (end : ScriptEnd) → ServesKind kind known0 known reader0 reader writer0 writer end → Type 0
+HasAnswered line InTurn known0 known reader0 reader writer0 writer end served =
+    HasExchanged line (session service_turn known0 served.run.input GoOn served.run.mishaps).exchanges
 HasAnswered line Together known0 known reader0 reader writer0 writer end (inl opens) =
     HasFollowed line opens.file.read.refusal opens.announced known0 known opens.file.commands opens.file.between writer opens.file.reading end opens.file.follows
 HasAnswered line Together known0 known reader0 reader writer0 writer end (inr fails) = Unit {0}
@@ -89,7 +92,8 @@ pub record Work : Type 0 where
   pub known : Line
   pub served : ℕ
 
--- The sessions of a worker's shift, as many as it says at least, which were served in their turn: this list begins with what the worker knew, and has each command that was replied `ok N`, at the number N.
+-- The sessions of a worker's shift, as many as it says at least, which were served in their turn: this list begins with what the
+-- worker knew, and has each command that was replied `ok N`, at the number N.
 pub record Keeps (line : Line) (work : Work) : Type 0 where
   pub begins : Begins work.known line
   pub first : Line

@@ -8,7 +8,8 @@ use Rattle.prt_session.specs.Session.{session}
 use Rattle.prt_refusals.specs.declared.on_refusal.OnRefusal.TheVariants.{GoOn}
 use Rattle.prt_replies.specs.declared.script_end.ScriptEnd.{ScriptEnd}
 
--- A session ran with force, what its exchanges show of the published list, and the most bytes that it takes: a million lines of 65,537 bytes each, and one byte more.
+-- A session ran with force, what its exchanges show of the published list, and the most bytes that it takes: a million lines of
+-- 65,537 bytes each, and one byte more.
 pub record Serves (known0 known : Line) (reader0 reader writer0 writer : Option (List ℕ)) (end : ScriptEnd) : Type 0 where
   pub run : RunIs service_turn service_may GoOn known0 known reader0 reader writer0 writer end
   pub shows : Shows known0 known (session service_turn known0 run.input GoOn run.mishaps).exchanges

@@ -1,5 +1,6 @@
 -- What serving an atomic file does: its commands are made together, at the number that was expected, or none of them is.
-use Rattle.std.specs.Prelude.{◌≡◌, ◌-◌, ◌≤◌, ◌<◌, ◌^◌, ◌⊎◌, ℕ, Bool, true, false, List, [], ◌++◌, Option, Some, None, IfSome, is_some, Result, Ok, Err, codes, if◌then◌else◌, length}
+use Rattle.std.specs.Prelude.{◌≡◌, ◌-◌, ◌≤◌, ◌<◌, ◌^◌, ◌⊎◌, ℕ, Bool, true, false, List, [], ◌++◌, Option, Some, None, IfSome, is_some, Result, Ok}
+use Rattle.std.specs.Prelude.{Err, codes, if◌then◌else◌, length}
 use Rattle.prt_command.specs.declared.request.Command.{Command}
 use Rattle.prt_published.specs.Line.{Begins, Line}
 use Rattle.prt_refusals.specs.declared.refusal.Refusal.{Refusal}
@@ -10,9 +11,9 @@ use Rattle.prt_replies.specs.Written.{Written}
 use Rattle.prt_replies.specs.declared.reply.Reply.{Reply}
 use Rattle.prt_replies.specs.declared.reply.Reply.TheVariants.{Refused}
 use Rattle.prt_replies.specs.declared.script_end.ScriptEnd.{ScriptEnd}
-use Rattle.prt_serve.specs.Opening.{AreAnnounced, HasLetGo, at_line, is_as_many}
+use Rattle.prt_serve.specs.Announcement.{AreAnnounced, HasLetGo, at_line, is_as_many}
 use Rattle.prt_serve.specs.Requests.{number_of}
-use Rattle.prt_serve.specs.declared.opening.Announcement.{Announcement}
+use Rattle.prt_serve.specs.declared.announcement.Announcement.{Announcement}
 use Rattle.prt_service.specs.Service.{EndsWithAll, IsAfter, IsServiceRefusal, IsWhyNotMade}
 use Rattle.prt_service.specs.declared.submit_error.SubmitError.{SubmitError}
 use Rattle.prt_service.specs.declared.submit_error.SubmitError.TheVariants as why
@@ -25,11 +26,13 @@ use Rattle.prt_session.specs.Steps.{AreSubmittable}
 abbrev pub Outcome : Type 0
 Outcome = Result (Option ℕ) SubmitError
 
--- Commands are made with a receipt of a list that ends with them, and is known from then on; if they were to be made at a number, the list had this number before them. Commands that are not made leave what is known.
+-- Commands are made with a receipt of a list that ends with them, and is known from then on; if they were to be made at a number,
+-- the list had this number before them. Commands that are not made leave what is known.
 abbrev pub Comes : Option ℕ → (known0 known : Line) → List Command → Outcome → Type 0
 Comes expected known0 known commands (Ok None) = (commands ≡ []) × (known ≡ known0)
 Comes expected known0 known commands (Ok (Some last)) =
-    (1 ≤ length commands) × ((receipt : Line) × (last ≡ number_of receipt) × EndsWithAll receipt.list commands × IfSome expected (λ number. IsAfter number commands receipt)
+    (1 ≤ length commands) × ((receipt : Line) × (last ≡ number_of receipt) × EndsWithAll receipt.list commands
+    × IfSome expected (λ number. IsAfter number commands receipt)
     × Begins receipt known × Begins known0 known)
 Comes expected known0 known commands (Err (why.Refused reason)) = (1 ≤ length commands) × IsServiceRefusal reason × (known ≡ known0)
 Comes expected known0 known commands (Err (why.Moved number)) = IsWhyNotMade expected (why.Moved number) × (known ≡ known0)
@@ -82,7 +85,8 @@ pub record IsCutShort (announced : Announcement) (known0 known : Line) (writer0 
   pub told : ToldIs 0 (Err (why.Refused ReadFault)) writer0 writer end
 
 -- what follows the reading: nothing after a refusal; and else the submission, if as many commands came as were announced
-abbrev pub Follows : Option Reply → Announcement → (known0 known : Line) → List Command → (writer0 writer : Option (List ℕ)) → (reading end : ScriptEnd) → Type 0
+abbrev pub Follows : Option Reply → Announcement → (known0 known : Line) → List Command → (writer0 writer : Option (List ℕ)) →
+    (reading end : ScriptEnd) → Type 0
 Follows (Some refused) announced known0 known commands writer0 writer reading end = (known ≡ known0) × (writer ≡ writer0) × (end ≡ reading)
 Follows None announced known0 known commands writer0 writer reading end =
     ((is_as_many announced.count (length commands) ≡ true) × IsSubmitted announced.number known0 known commands writer0 writer end)

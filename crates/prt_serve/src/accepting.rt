@@ -1,4 +1,4 @@
-//! How a listener accepts, and what becomes of its errors.
+//! One `accept` of a listener, and what becomes of its errors.
 
 use crate::gate::Gate;
 use std::io::{self, ErrorKind};
@@ -14,7 +14,7 @@ const PAUSE: u64 = 100;
 const PERMANENT: [i32; 5] = [9, 14, 22, 88, 95];
 
 /// What became of an `accept`.
-pub(crate) enum Accepted<T> {
+pub(crate) enum AcceptResult<T> {
     /// A connection, and where its client is.
     Stream(T, SocketAddr),
     /// None, and the next `accept` may return one.
@@ -46,19 +46,19 @@ pub(crate) fn accept_one<H: Clock, G: Gate, L: OpenListener>(
     rt: &H,
     gate: &G,
     listener: &L,
-) -> Accepted<L::Stream> {
+) -> AcceptResult<L::Stream> {
     match listener.accept() {
-        Ok((stream, client)) => Accepted::Stream(stream, client),
+        Ok((stream, client)) => AcceptResult::Stream(stream, client),
         Err(error) => {
             if is_nobody(&error) {
-                return Accepted::Nobody;
+                return AcceptResult::Nobody;
             }
             gate.not_accepted(&error);
             if is_permanent(&error) {
-                return Accepted::Never;
+                return AcceptResult::Never;
             }
             thread::sleep(rt, Duration::from_millis(PAUSE));
-            Accepted::Nobody
+            AcceptResult::Nobody
         }
     }
 }

@@ -2,14 +2,14 @@
 ghost use Rattle.std.specs.Prelude.{◌≡◌, Err, None};
 ghost use Rattle.prt_published.specs.Line.{Begins};
 ghost use Rattle.prt_replies.specs.Written.{Written};
-ghost use Rattle.prt_serve.specs.Opening.{HasLetGo};
+ghost use Rattle.prt_serve.specs.Announcement.{HasLetGo};
 ghost use Rattle.prt_serve.specs.Resumed.{resumed_remaining};
 ghost use Rattle.prt_serve.specs.Together.{Comes, FailsToOpen, FileIs, FitsNumbers, ServesTogether, ToldIs, outcome_fault, outcome_refused, outcome_text};
 ghost use Rattle.prt_session.specs.Steps.{AreSubmittable};
 
+use crate::announcement::{Announcement, AnnouncementError, at_text, read_announcement};
 use crate::context::{ServiceContext, Serving};
 use crate::gate::Gate;
-use crate::opening::{Announcement, AnnouncementError, at_text, read_announcement};
 use crate::resumed::Resumed;
 use prt_command::Command;
 use prt_replies::{write_bytes, write_reply};
@@ -118,7 +118,7 @@ fn make<C: Serving>(
     }
 }
 
-/// Says how a file ends of whose commands this came.
+/// Returns how an atomic script ended, of whose commands this came.
 fn end_of(came: &Result<Option<u64>, SubmitError>) -> ScriptEnd
     ensures refused { result.refused ≡ outcome_refused came.now }
     ensures fault { result.fault ≡ outcome_fault came.now }

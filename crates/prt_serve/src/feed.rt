@@ -209,7 +209,9 @@ pub fn serve_feed<C: Serving, R: Read, W: Write>(
     reader: &mut R,
     writer: &mut W,
 ) -> Result<Fed, Refusal>
-    ensures fed { IfOk result (λ fed. (opening : Line) × (opening.book ≡ C.Brand.book) × (opening.base ≡ C.Brand.base) × Feeds opening fed.left fed.is_whole (W.contents writer.old) (W.contents writer.new)) }
+    ensures fed { IfOk result (λ fed.
+        (opening : Line) × (opening.book ≡ C.Brand.book) × (opening.base ≡ C.Brand.base)
+        × Feeds opening fed.left fed.is_whole (W.contents writer.old) (W.contents writer.new)) }
     ensures reason { IfErr result IsFollowRefusal }
     ensures nothing { OnErr result (writer.new ≡ writer.old) }
 {

@@ -1,12 +1,13 @@
 //! The loop that accepts connections of a feed, and the threads that feed them.
 ghost use Rattle.std.specs.Prelude.{◌≡◌, ◌≢◌, None, vec_len};
 
-use crate::accepting::{Accepted, accept_one};
+use crate::accept_loop::{Accepting, Entrance};
+use crate::accepting::{AcceptResult, accept_one};
 use crate::context::{ServiceContext, Serving, SharedServing};
 use crate::feed::serve_feed;
 use crate::gate::Gate;
-use crate::listen::{Accepting, Entrance, Limits, ServeEnd, Worked, serve_all};
 use crate::places::Places;
+use crate::threads::{Limits, ServeEnd, Worked, serve_sessions};
 use crossbeam_channel::{Receiver, Sender, bounded};
 use std::io::{self, Read, Write};
 use std::net::{OpenListener, OpenStream};
@@ -94,12 +95,12 @@ fn accept_round<H: Wait + Clock, G: Gate, L: OpenListener>(
     let mut round = Round::Nobody;
     for listener in listeners {
         match accept_one(rt, gate, listener) {
-            Accepted::Stream(stream, _) => {
+            AcceptResult::Stream(stream, _) => {
                 round = Round::Came;
                 drop(streams.send_timeout(rt, stream, patience));
             }
-            Accepted::Nobody => {}
-            Accepted::Never => return Round::Never,
+            AcceptResult::Nobody => {}
+            AcceptResult::Never => return Round::Never,
         }
     }
     round
@@ -166,7 +167,7 @@ fn feed_all<
     }
 }
 
-/// Serves the connections of listeners as `serve_all` does, and beside it feeds those of others: up to 80 at once, of
+/// Serves the connections of listeners as `serve_sessions` does, and beside it feeds those of others: up to 80 at once, of
 /// which 16 follow once they have read the tables. A further one waits up to 10 seconds for a thread, and is closed then.
 /// A feed has a thread of its own, and its faults end it alone. All threads have ended when it returns.
 pub fn serve_and_feed<
@@ -188,7 +189,7 @@ pub fn serve_and_feed<
         || feed_all(context, feeds, &is_ended),
         // The prover keeps what a closure ensures only if the closure owns its context.
         move || {
-            let worked = serve_all(&own, entrances, limits);
+            let worked = serve_sessions(&own, entrances, limits);
             is_over.store(true, Ordering::SeqCst);
             own.service.end_following(own.rt);
             worked

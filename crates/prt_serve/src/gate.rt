@@ -46,7 +46,7 @@ pub trait Gate {
     }
 }
 
-/// Lets every line pass.
+/// Does nothing.
 #[derive(Clone, Copy)]
 pub struct OpenGate;
 

@@ -21,6 +21,8 @@ pub fn shows()
 pub fn comments_say_nothing()
     ensures beats { reading (comment_text None) ≡ Ok None }
     ensures counts { (count : ℕ) → count < 2 ^ 64 → reading (comment_text (Some count)) ≡ Ok None }
-    ensures lines { (number : ℕ) (pieces : List Piece) → number + length pieces < 2 ^ 64 → without_comments (told_lines number pieces) ≡ change_lines number (commands_in pieces) }
-    ensures text { (state : State) (pieces : List Piece) → state.count + length pieces < 2 ^ 64 → opening_text state ++ lines_text (without_comments (told_lines state.count pieces)) ≡ feed_text state (commands_in pieces) }
+    ensures lines { (number : ℕ) (pieces : List Piece) → number + length pieces < 2 ^ 64 →
+        without_comments (told_lines number pieces) ≡ change_lines number (commands_in pieces) }
+    ensures text { (state : State) (pieces : List Piece) → state.count + length pieces < 2 ^ 64 →
+        opening_text state ++ lines_text (without_comments (told_lines state.count pieces)) ≡ feed_text state (commands_in pieces) }
 {}

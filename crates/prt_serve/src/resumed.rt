@@ -3,7 +3,7 @@ ghost use Rattle.std.specs.Prelude.{◌≡◌};
 ghost use Rattle.std.specs.Io.KnownBytes.{prepend_known};
 ghost use Rattle.prt_serve.specs.Resumed.{resumed_remaining, unread_head};
 
-use crate::opening::LONGEST_HEAD;
+use crate::announcement::LONGEST_HEAD;
 use arrayvec::ArrayVec;
 use std::io::{self, Read};
 

@@ -2,7 +2,10 @@
 ghost use Rattle.std.specs.Prelude.{◌≡◌, IfErr, IfOk, IfSome, MatchResult, None, Some};
 ghost use Rattle.prt_published.specs.Line.{Begins, line_state};
 ghost use Rattle.prt_listing.specs.QueryText.{query_text};
+ghost use Rattle.prt_refusals.specs.declared.on_refusal.OnRefusal.TheVariants.{GoOn};
+ghost use Rattle.prt_serve.specs.Requests.{service_may, service_turn};
 ghost use Rattle.prt_serve.specs.Serving.{Serves};
+ghost use Rattle.prt_session.specs.Run.{RunIs};
 
 use crate::connection::Pipeline;
 use crate::context::{ServiceContext, Serving};
@@ -10,18 +13,20 @@ use crate::gate::Gated;
 use prt_command::{Query, Request};
 use prt_listing::query_text;
 use prt_service::Looker;
-use prt_session::{Executor, OnRefusal, Refusal, Reply, ScriptEnd, Text, run_session};
+use prt_session::{Executor, Form, OnRefusal, Refusal, Reply, ScriptEnd, Text, run_session};
 use prt_version::Version;
 use std::alloc::Global;
 use std::io::{Read, Write};
 use std::net::SocketAddr;
 
-/// Where a looker executes the requests of a session.
+/// A looker that executes the requests of a session as the service's guest.
 #[derive(Drop)]
-pub struct Visit<'a, C: Serving> {
-    context: ServiceContext<'a, C>,
-    /// What the ends of the connection report, if they do.
-    pipeline: Option<&'a Pipeline>,
+struct Visit<'l, 'v, C: Serving> {
+    looker: &'l mut Looker,
+    context: ServiceContext<'v, C>,
+    /// What the ends of the connection report, if they do. Behind a reference, since the prover loses a looker beside an
+    /// enum that holds one.
+    pipeline: &'v Option<&'v Pipeline>,
 }
 
 /// Has the looker hold the published version, unless it holds one already: that was fetched after the line that is executed
@@ -30,7 +35,10 @@ pub struct Visit<'a, C: Serving> {
 /// # Errors
 ///
 /// Those of `Looker::refresh`; it stays offline, and may know more.
-fn go_online<C: Serving>(visit: &Visit<'_, C>, looker: &mut Looker) -> Result<(), Refusal>
+fn go_online<C: Serving>(
+    context: &ServiceContext<'_, C>,
+    looker: &mut Looker,
+) -> Result<(), Refusal>
     requires held { IfSome looker.old.held (λ line. line ≡ looker.old.known) }
     requires of { (looker.old.known.book ≡ C.Brand.book) × (looker.old.known.base ≡ C.Brand.base) }
     ensures known { Begins looker.old.known looker.new.known }
@@ -40,24 +48,24 @@ fn go_online<C: Serving>(visit: &Visit<'_, C>, looker: &mut Looker) -> Result<()
     if looker.is_online() {
         return Ok(());
     }
-    looker.refresh(visit.context.rt, visit.context.service)
+    looker.refresh(context.rt, context.service)
 }
 
 /// Has the looker hold nothing. What it knows stays.
-fn go_offline<C: Serving>(visit: &Visit<'_, C>, looker: &mut Looker)
+fn go_offline<C: Serving>(context: &ServiceContext<'_, C>, looker: &mut Looker)
     requires { (looker.old.known.book ≡ C.Brand.book) × (looker.old.known.base ≡ C.Brand.base) }
     ensures known { looker.new.known ≡ looker.old.known }
     ensures held { looker.new.held ≡ None }
 {
     if looker.is_online() {
-        looker.rest(visit.context.rt, visit.context.service);
+        looker.rest(context.rt, context.service);
     }
 }
 
 /// Checks whether the next line is executed before anything waits for the client, the writing of this answer included. That
 /// line came before the version that answered was fetched.
-fn goes_on_after<C: Serving>(visit: &Visit<'_, C>, answered: &Result<Text, Refusal>) -> bool {
-    match (visit.pipeline, answered) {
+fn goes_on_after(pipeline: Option<&Pipeline>, answered: &Result<Text, Refusal>) -> bool {
+    match (pipeline, answered) {
         (Some(pipeline), Ok(text)) => pipeline.goes_on_after(text.as_slice().len()),
         _ => false,
     }
@@ -81,7 +89,8 @@ fn answer_from(alloc: Global, version: &Version, query: &Query) -> Result<Text, 
 /// stays online for the next line if nothing waits before that. It goes offline before it makes a listing, which may take
 /// long.
 fn answer<C: Serving>(
-    visit: &Visit<'_, C>,
+    context: &ServiceContext<'_, C>,
+    pipeline: Option<&Pipeline>,
     looker: &mut Looker,
     query: &Query,
 ) -> Result<Text, Refusal>
@@ -93,25 +102,26 @@ fn answer<C: Serving>(
     ensures held { IfSome looker.new.held (λ line. line ≡ looker.new.known) }
 {
     if let Query::Get(_) = query {
-        let answered = answer_from(visit.context.alloc, looker.version(), query);
-        if !goes_on_after(visit, &answered) {
-            go_offline(visit, looker);
+        let answered = answer_from(context.alloc, looker.version(), query);
+        if !goes_on_after(pipeline, &answered) {
+            go_offline(context, looker);
         }
         answered
     } else {
-        let version = looker.keep(visit.context.rt, visit.context.service);
-        answer_from(visit.context.alloc, &version, query)
+        let version = looker.keep(context.rt, context.service);
+        answer_from(context.alloc, &version, query)
     }
 }
 
-/// A looker executes requests as the service's guest: it submits each command and learns its receipt, and looks again for a
+/// The looker submits each command and learns its receipt, and looks again for a
 /// query, unless it is online still. From one line to the next it stays online only if nothing waits for the client between
 /// them, so a client that doesn't read its replies holds back no version. It is offline while a command is submitted.
-impl<'a, C: Serving> Executor<Visit<'a, C>> for Looker {
+impl<'l, 'v, C: Serving> Executor for Visit<'l, 'v, C> {
     ghost use Rattle.std.specs.Prelude.{◌≡◌, IfSome};
     ghost use Rattle.prt_published.specs.Line.{Line};
     ghost use Rattle.prt_serve.specs.Requests.{Event, service_may, service_turn};
     ghost use Rattle.prt_serve.specs.Growing.{Grows, grows_over_all};
+    ghost use Rattle.prt_session.specs.Preorder.{at_part};
 
     ghost Desk = { Line };
 
@@ -121,32 +131,34 @@ impl<'a, C: Serving> Executor<Visit<'a, C>> for Looker {
 
     ghost may = { service_may };
 
-    ghost stands = { λ looker line. line ≡ looker.known };
+    ghost stands = { λ visit line. line ≡ visit.looker.now.known };
 
-    ghost keeps = { Grows };
+    ghost keeps = { λ old new. (new.looker.ghost_name ≡ old.looker.ghost_name) × Grows old.looker.now new.looker.now };
 
-    ghost keeps_over_all = { grows_over_all };
+    ghost keeps_over_all = { at_part (λ visit. visit.looker.ghost_name) (λ visit. visit.looker.now) grows_over_all };
 
-    ghost fits = { λ looker. (looker.known.book ≡ C.Brand.book) × (looker.known.base ≡ C.Brand.base) × IfSome looker.held (λ line. line ≡ looker.known) };
+    ghost fits = { λ visit.
+        (visit.looker.now.known.book ≡ C.Brand.book) × (visit.looker.now.known.base ≡ C.Brand.base)
+        × IfSome visit.looker.now.held (λ line. line ≡ visit.looker.now.known) };
 
-    fn execute(&mut self, visit: &Visit<'a, C>, request: &Request) -> Reply {
+    fn execute(&mut self, request: &Request) -> Reply {
         match request {
             Request::Command(command) => {
-                go_offline(visit, self);
-                match visit.context.service.submit(visit.context.rt, command) {
+                go_offline(&self.context, self.looker);
+                match self.context.service.submit(self.context.rt, command) {
                     Ok(receipt) => {
                         let number = receipt.number();
-                        self.learn(receipt);
+                        self.looker.learn(receipt);
                         Reply::Accepted(number)
                     }
                     Err(reason) => Reply::Refused(reason),
                 }
             }
             Request::Query(query) => {
-                if let Err(reason) = go_online(visit, self) {
+                if let Err(reason) = go_online(&self.context, self.looker) {
                     return Reply::Refused(reason);
                 }
-                match answer(visit, self, query) {
+                match answer(&self.context, *self.pipeline, self.looker, query) {
                     Ok(text) => Reply::Answered(text),
                     Err(reason) => Reply::Refused(reason),
                 }
@@ -154,9 +166,39 @@ impl<'a, C: Serving> Executor<Visit<'a, C>> for Looker {
         }
     }
 
-    fn pass(&mut self, visit: &Visit<'a, C>) {
-        go_offline(visit, self);
+    fn pass(&mut self) {
+        go_offline(&self.context, self.looker);
     }
+}
+
+/// Runs the session of a looker that is offline: executes each line and replies to it before the next is read.
+fn run_visit<C: Serving, R: Read, W: Write>(
+    context: &ServiceContext<'_, C>,
+    looker: &mut Looker,
+    pipeline: Option<&Pipeline>,
+    gated: &mut Gated<'_, C::Gate>,
+    reader: &mut R,
+    writer: &mut W,
+) -> ScriptEnd
+    requires of { (looker.old.known.book ≡ C.Brand.book) × (looker.old.known.base ≡ C.Brand.base) }
+    requires offline { looker.old.held ≡ None }
+    ensures of { (looker.new.known.book ≡ C.Brand.book) × (looker.new.known.base ≡ C.Brand.base) }
+    ensures run { RunIs service_turn service_may GoOn looker.old.known looker.new.known (R.remaining reader.old) (R.remaining reader.new)
+        (W.contents writer.old) (W.contents writer.new) result }
+{
+    let mut visit = Visit {
+        looker: &mut *looker,
+        context: *context,
+        pipeline: &pipeline,
+    };
+    run_session(
+        &mut visit,
+        reader,
+        writer,
+        Form::Plain,
+        OnRefusal::GoOn,
+        gated,
+    )
 }
 
 /// Serves one session: executes each line and replies to it before the next is read, and goes on after a refused line.
@@ -183,16 +225,12 @@ pub fn serve_session<C: Serving, R: Read, W: Write>(
         (W.contents writer.old) (W.contents writer.new) result }
 {
     looker.rest(context.rt, context.service);
-    let visit = Visit {
-        context: *context,
-        pipeline,
-    };
     let mut gated = Gated {
         gate: context.gate,
         session,
         client,
     };
-    let end = run_session(&visit, looker, reader, writer, OnRefusal::GoOn, &mut gated);
+    let end = run_visit(context, looker, pipeline, &mut gated, reader, writer);
     looker.rest(context.rt, context.service);
     end
 }

@@ -13,7 +13,7 @@ use std::marker::{Model, PhantomData};
 /// Contracts see it as the list that the looker knew, and the number of sessions. What these were is in no memory; that
 /// there are so many, and that the list has each command which was replied `ok N` in them, is part of the value.
 ///
-/// [`work`]: crate::work
+/// [`work`]: crate::ServiceContext::work
 #[derive(Drop)]
 pub struct Shift<J: ServiceBrand> {
     departure: Departure,
@@ -29,7 +29,8 @@ impl<J: ServiceBrand> Model for Shift<J> {
 
     ghost view = { λ s. record { known = s.departure; served = s.served } };
 
-    ghost invariant = { λ s. (s.departure.book ≡ J.book) × (s.departure.base ≡ J.base) × Keeps s.departure (record { known = s.departure; served = s.served }) };
+    ghost invariant = { λ s. (s.departure.book ≡ J.book) × (s.departure.base ≡ J.base)
+        × Keeps s.departure (record { known = s.departure; served = s.served }) };
 }
 
 impl<J: ServiceBrand> Shift<J> {

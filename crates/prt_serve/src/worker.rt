@@ -135,78 +135,81 @@ fn serve_together<C: Serving, R: Read + Drop, W: Write + Drop>(
     }
 }
 
-/// Serves jobs until no more come, each with all that the looker learned from those before. A fault ends its own session
-/// alone. Passes each job to `after` once its session has ended. Returns how many it served, as far as 64 bits count them.
-fn serve_jobs<
-    C: Serving,
-    R: Read + Drop,
-    W: Write + Drop,
-    I: Iterator<Item = Job<R, W>>,
-    F: FnMut(Served<R, W>),
->(context: &ServiceContext<'_, C>, looker: &mut Looker, jobs: I, mut after: F) -> u64
-    requires of { (looker.old.known.book ≡ C.Brand.book) × (looker.old.known.base ≡ C.Brand.base) }
-    requires can { I.can_next jobs }
-    requires ends { IsFinite (I.remaining jobs) }
-    requires callable { F.IsAlwaysCallable after }
-    ensures of { (looker.new.known.book ≡ C.Brand.book) × (looker.new.known.base ≡ C.Brand.base) }
-    ensures grows { Begins looker.old.known looker.new.known }
-    ensures served { ServesCounted I.next_gives R.remaining W.contents (λ to left later. F.step to left tt later) jobs looker.old.known after looker.new.known result }
-{
-    let mut served: u64 = 0;
-    for mut job in jobs {
-        served = served.saturating_add(1);
-        match job.kind {
-            Kind::InTurn => {
-                let end = serve_job(context, looker, &mut job);
-                after(Served { job, end });
+impl<'a, C: Serving> ServiceContext<'a, C> {
+    /// Serves jobs until no more come, each with all that the looker learned from those before. A fault ends its own session
+    /// alone. Passes each job to `after` once its session has ended. Returns how many it served, as far as 64 bits count them.
+    fn serve_jobs<
+        R: Read + Drop,
+        W: Write + Drop,
+        I: Iterator<Item = Job<R, W>>,
+        F: FnMut(Served<R, W>),
+    >(&self, looker: &mut Looker, jobs: I, mut after: F) -> u64
+        requires of { (looker.old.known.book ≡ C.Brand.book) × (looker.old.known.base ≡ C.Brand.base) }
+        requires can { I.can_next jobs }
+        requires ends { IsFinite (I.remaining jobs) }
+        requires callable { F.IsAlwaysCallable after }
+        ensures of { (looker.new.known.book ≡ C.Brand.book) × (looker.new.known.base ≡ C.Brand.base) }
+        ensures grows { Begins looker.old.known looker.new.known }
+        ensures served { ServesCounted I.next_gives R.remaining W.contents
+            (λ to left later. F.step to left tt later) jobs looker.old.known after looker.new.known result }
+    {
+        let mut served: u64 = 0;
+        for mut job in jobs {
+            served = served.saturating_add(1);
+            match job.kind {
+                Kind::InTurn => {
+                    let end = serve_job(self, looker, &mut job);
+                    after(Served { job, end });
+                }
+                Kind::Together => after(serve_together(self, looker, job)),
             }
-            Kind::Together => after(serve_together(context, looker, job)),
         }
+        served
     }
-    served
-}
 
-/// Serves jobs until no more come, with a looker that then leaves.
-fn work_with<
-    C: Serving,
-    R: Read + Drop,
-    W: Write + Drop,
-    I: Iterator<Item = Job<R, W>>,
-    F: FnMut(Served<R, W>),
->(context: &ServiceContext<'_, C>, mut looker: Looker, jobs: I, after: F) -> Shift<C::Brand>
-    requires of { (looker.known.book ≡ C.Brand.book) × (looker.known.base ≡ C.Brand.base) }
-    requires can { I.can_next jobs }
-    requires ends { IsFinite (I.remaining jobs) }
-    requires callable { F.IsAlwaysCallable after }
-    ensures served { ServesCounted I.next_gives R.remaining W.contents (λ to left later. F.step to left tt later) jobs looker.known after result.known result.served }
-{
-    let served = serve_jobs(context, &mut looker, jobs, after);
-    Shift::new(looker.leave(context.rt, context.service), served)
-}
+    /// Serves jobs until no more come, with a looker that then leaves.
+    fn work_with<
+        R: Read + Drop,
+        W: Write + Drop,
+        I: Iterator<Item = Job<R, W>>,
+        F: FnMut(Served<R, W>),
+    >(&self, mut looker: Looker, jobs: I, after: F) -> Shift<C::Brand>
+        requires of { (looker.known.book ≡ C.Brand.book) × (looker.known.base ≡ C.Brand.base) }
+        requires can { I.can_next jobs }
+        requires ends { IsFinite (I.remaining jobs) }
+        requires callable { F.IsAlwaysCallable after }
+        ensures served { ServesCounted I.next_gives R.remaining W.contents
+            (λ to left later. F.step to left tt later) jobs looker.known after result.known result.served }
+    {
+        let served = self.serve_jobs(&mut looker, jobs, after);
+        Shift::new(looker.leave(self.rt, self.service), served)
+    }
 
-/// Serves jobs until no more come, with a looker of its own, which then leaves. Passes each job to `after` once its session
-/// has ended. The shift has the list that the looker knew at the end, and the number of the jobs.
-///
-/// # Errors
-///
-/// `Full` if the service has no looker left; no job is taken then.
-pub fn work<
-    C: Serving,
-    R: Read + Drop,
-    W: Write + Drop,
-    I: Iterator<Item = Job<R, W>>,
-    F: FnMut(Served<R, W>),
->(context: &ServiceContext<'_, C>, jobs: I, after: F) -> Result<Shift<C::Brand>, Refusal>
-    requires can { I.can_next jobs }
-    requires ends { IsFinite (I.remaining jobs) }
-    requires callable { F.IsAlwaysCallable after }
-    ensures served { IfOk result (λ left. (known : Line) × (known.book ≡ C.Brand.book) × (known.base ≡ C.Brand.base) × ServesAll I.next_gives R.remaining W.contents (λ to left later. F.step to left tt later) jobs known after left.known) }
-    ensures counted { IfOk result (λ left. (served : List (Job R W)) × Drains I.next_gives jobs served × (left.served ≡ min (length served) (2 ^ 64 - 1))) }
-    ensures reason { IfErr result (λ reason. reason ≡ Refusal.Full) }
-{
-    let looker = match context.service.looker(context.rt) {
-        Ok(looker) => looker,
-        Err(reason) => return Err(reason),
-    };
-    Ok(work_with(context, looker, jobs, after))
+    /// Serves jobs until no more come, with a looker of its own, which then leaves. Passes each job to `after` once its session
+    /// has ended. The shift has the list that the looker knew at the end, and the number of the jobs.
+    ///
+    /// # Errors
+    ///
+    /// `Full` if the service has no looker left; no job is taken then.
+    pub fn work<
+        R: Read + Drop,
+        W: Write + Drop,
+        I: Iterator<Item = Job<R, W>>,
+        F: FnMut(Served<R, W>),
+    >(&self, jobs: I, after: F) -> Result<Shift<C::Brand>, Refusal>
+        requires can { I.can_next jobs }
+        requires ends { IsFinite (I.remaining jobs) }
+        requires callable { F.IsAlwaysCallable after }
+        ensures served { IfOk result (λ left.
+            (known : Line) × (known.book ≡ C.Brand.book) × (known.base ≡ C.Brand.base)
+            × ServesAll I.next_gives R.remaining W.contents (λ to left later. F.step to left tt later) jobs known after left.known) }
+        ensures counted { IfOk result (λ left. (served : List (Job R W)) × Drains I.next_gives jobs served × (left.served ≡ min (length served) (2 ^ 64 - 1))) }
+        ensures reason { IfErr result (λ reason. reason ≡ Refusal.Full) }
+    {
+        let looker = match self.service.looker(self.rt) {
+            Ok(looker) => looker,
+            Err(reason) => return Err(reason),
+        };
+        Ok(self.work_with(looker, jobs, after))
+    }
 }

@@ -18,9 +18,13 @@ IsPartOf [] all = Unit {0}
 IsPartOf (command ∷ commands) [] = ⊥
 IsPartOf (command ∷ commands) (first ∷ later) = ((command ≡ first) × IsPartOf commands later) ⊎ IsPartOf (command ∷ commands) later
 
--- Either they were published: each was refused for nothing, the published list has grown by exactly these, in their order, and the receipt is of it. Or they are not acknowledged, and the list is as it was.
-pub record AreSubmitted {S : Type 0} (g : Ghosts S) (old : Standing (Held S)) (commands : List Command) (became : Result Line Refusal) (new : Standing (Held S)) : Type 0 where
-  pub ok : IfOk became (λ receipt. TakesAll old commands × (receipt ≡ grown_by old.line commands) × (new ≡ record old { phase = Ready; line = grown_by old.line commands; commands = []; tables = new.tables }))
+-- Either they were published: each was refused for nothing, the published list has grown by exactly these, in their order, and
+-- the receipt is of it. Or they are not acknowledged, and the list is as it was.
+pub record AreSubmitted {S : Type 0} (g : Ghosts S) (old : Standing (Held S)) (commands : List Command) (became : Result Line Refusal)
+    (new : Standing (Held S)) : Type 0 where
+  pub ok : IfOk became (λ receipt.
+      TakesAll old commands × (receipt ≡ grown_by old.line commands)
+      × (new ≡ record old { phase = Ready; line = grown_by old.line commands; commands = []; tables = new.tables }))
   pub err : IfErr became (λ reason. (new.line ≡ old.line) × AreNotAcknowledged g old commands reason new)
 
 -- they may be stored, and are not published: the store or the front has failed, for this reason

@@ -2,7 +2,8 @@
 use Rattle.std.specs.Prelude.{◌≡◌, ◌≢◌, ◌+◌, ℕ, List, [], ◌∷◌, ◌++◌, IfErr, IfOk, Option, Some, Result, length}
 use Rattle.logbook.specs.Pages.{Book}
 use Rattle.prt_refusals.specs.declared.refusal.Refusal.{Refusal}
-use Rattle.prt_refusals.specs.declared.refusal.Refusal.TheVariants.{Busy, Closed, CountFull, Exists, Full, NoMemory, NoSuch, NotFetched, NotPublished, StoreFailed}
+use Rattle.prt_refusals.specs.declared.refusal.Refusal.TheVariants.{Busy, Closed, CountFull, Exists, Full, NoMemory, NoSuch, NotFetched}
+use Rattle.prt_refusals.specs.declared.refusal.Refusal.TheVariants.{NotPublished, StoreFailed}
 use Rattle.prt_command.specs.declared.request.Command.{Command}
 use Rattle.prt_published.specs.Line.{Line}
 use Rattle.prt_service.specs.declared.submit_error.SubmitError.{SubmitError}

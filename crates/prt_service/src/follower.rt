@@ -73,7 +73,7 @@ impl<J: ServiceBrand> Follower<J> {
     ///
     /// `Ended` if 1,000 commands waited for it and there was one more, or following has ended, once it has learned
     /// those that waited. `Quiet` and `Ended` leave it with what it knew. A clock that can't be read ends the wait.
-    pub fn next_within<W: Wait + Clock>(&mut self, rt: &W, patience: Duration) -> News
+    pub fn next_within<H: Wait + Clock>(&mut self, rt: &H, patience: Duration) -> News
         ensures { IsNews self.old result self.new }
     {
         let Change {
@@ -99,7 +99,7 @@ impl<J: ServiceBrand> Follower<J> {
 
     /// Ends its channel: the service that it is of reports nothing more to it. The result says that it left, with the
     /// list that it knew.
-    pub fn leave<S: Alter + Drop, W: Wait>(self, rt: &W, service: &Service<S, J>) -> Unfollowed
+    pub fn leave<S: Alter + Drop, H: Wait>(self, rt: &H, service: &Service<S, J>) -> Unfollowed
         ensures { result ≡ self }
     {
         let Follower {

@@ -131,13 +131,13 @@ impl<J: ServiceBrand> Followers<J> {
     }
 
     /// Reports a command to each, and lets those go that have no room for it, or have left.
-    fn tell<W: Wait>(&mut self, rt: &W, change: &Change<J>) {
+    fn tell<H: Wait>(&mut self, rt: &H, change: &Change<J>) {
         self.recipients
             .retain(|one| one.sender.try_send(rt, change.again()).is_ok());
     }
 
     /// Reports the commands of a receipt to each, one after the other.
-    pub(crate) fn tell_all<W: Wait>(&mut self, rt: &W, last: &Receipt, commands: &[Command])
+    pub(crate) fn tell_all<H: Wait>(&mut self, rt: &H, last: &Receipt, commands: &[Command])
         requires of { (last.now.book ≡ J.book) × (last.now.base ≡ J.base) }
         requires ends { EndsWithAll last.now.list commands.now }
     {

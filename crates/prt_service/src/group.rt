@@ -77,17 +77,18 @@ impl<J: ServiceBrand> Group<J> {
 
     /// Submits its commands together: they are published, or their fate is unknown. `None` if they were let go, and nothing
     /// has changed.
-    fn submit<S: Alter + Drop, W: Wait>(
+    fn submit<S: Alter + Drop, H: Wait>(
         self,
         publisher: &mut PublisherWithFollowers<S, J>,
-        rt: &W,
+        rt: &H,
         alloc: Global,
         domain: &Domain,
     ) -> Option<Submitted<J>>
         requires { self.base ≡ line_state publisher.old.line }
         ensures commands { IfSome result (λ submitted. submitted.waiting.items ≡ self.commands) }
         ensures submitted { IfSome result (λ submitted. AreSubmitted S.Store publisher.old self.commands submitted.became publisher.new) }
-        ensures fate { IfSome result (λ submitted. IfErr submitted.became (λ reason. HaveUnknownFate S.Store publisher.old self.commands reason publisher.new)) }
+        ensures fate { IfSome result (λ submitted.
+            IfErr submitted.became (λ reason. HaveUnknownFate S.Store publisher.old self.commands reason publisher.new)) }
         ensures answered { IfSome result (λ submitted. AreAnswered J.book J.base self.commands submitted.became) }
         ensures none { result ≡ None → publisher.new ≡ publisher.old }
     {
@@ -129,9 +130,9 @@ fn have_unknown_fate(reason: &Refusal) -> bool
 /// Submits the commands that wait, in one transaction those that are accepted one after the other. The others are let go, as
 /// are all if the publisher has no room or no memory for them together: a thread that waits for one submits it by
 /// itself.
-pub(crate) fn submit_waiting<S: Alter + Drop, J: ServiceBrand, W: Wait>(
+pub(crate) fn submit_waiting<S: Alter + Drop, J: ServiceBrand, H: Wait>(
     publisher: &mut PublisherWithFollowers<S, J>,
-    rt: &W,
+    rt: &H,
     alloc: Global,
     domain: &Domain,
     waiting: Vec<Waiting<J>>,

@@ -1,9 +1,12 @@
 //! The service: one publisher that any number of threads submit commands to, lookers that read what it publishes, and
 //! followers that learn of it.
 //!
-//! There are four locks. Under the publisher's the domain's is taken, step by step, that of the lobby, where commands wait,
-//! and those of the channels of answers and of followers. The lock of the spare readers is held with no other. A looker
-//! reads the version that it holds without any.
+//! The lock of the publisher is the outer one. Under it these are taken, one at a time:
+//! - that of the domain, for each step that needs the registry;
+//! - that of the lobby, where commands wait;
+//! - those of the channels of answers and of followers.
+//!
+//! The lock of the spare readers is held with no other. A looker reads the version that it holds without any.
 #![tactic(auto)]
 
 mod change;

@@ -101,9 +101,9 @@ impl Looker {
     ///
     /// `NotFetched` if the front can't be entered, its version has as many owners as can be counted, or the version is
     /// older than what the looker has announced. It then holds and has announced what it had, and may know more.
-    pub fn refresh<S: Alter + Drop, J: ServiceBrand, W: Wait>(
+    pub fn refresh<S: Alter + Drop, J: ServiceBrand, H: Wait>(
         &mut self,
-        rt: &W,
+        rt: &H,
         service: &Service<S, J>,
     ) -> Result<(), Refusal>
         requires { (self.old.known.book ≡ J.book) × (self.old.known.base ≡ J.base) }
@@ -134,9 +134,9 @@ impl Looker {
     }
 
     /// Releases its version, and goes offline. What it knows stays.
-    pub fn rest<S: Alter + Drop, J: ServiceBrand, W: Wait>(
+    pub fn rest<S: Alter + Drop, J: ServiceBrand, H: Wait>(
         &mut self,
-        rt: &W,
+        rt: &H,
         service: &Service<S, J>,
     )
         requires { (self.old.known.book ≡ J.book) × (self.old.known.base ≡ J.base) }
@@ -148,9 +148,9 @@ impl Looker {
 
     /// Hands the version that it holds to the caller, and goes offline: however long the caller keeps the version, no
     /// publication waits for it. What it knows stays. It is online.
-    pub fn keep<S: Alter + Drop, J: ServiceBrand, W: Wait>(
+    pub fn keep<S: Alter + Drop, J: ServiceBrand, H: Wait>(
         &mut self,
-        rt: &W,
+        rt: &H,
         service: &Service<S, J>,
     ) -> Arc<Version>
         requires online { IsSome self.old.held }
@@ -168,9 +168,9 @@ impl Looker {
 
     /// Hands its version, then its reader, and then its place back to the service that it is of: a looker that gets the
     /// place finds a reader. The departure says so, with the list that it knew.
-    pub fn leave<S: Alter + Drop, J: ServiceBrand, W: Wait>(
+    pub fn leave<S: Alter + Drop, J: ServiceBrand, H: Wait>(
         self,
-        rt: &W,
+        rt: &H,
         service: &Service<S, J>,
     ) -> Departure
         requires { (self.known.book ≡ J.book) × (self.known.base ≡ J.base) }

@@ -74,9 +74,9 @@ impl<S: Alter + Drop, J: ServiceBrand> PublisherWithFollowers<S, J> {
     /// # Errors
     ///
     /// Those of `Publisher::submit`, with what each leaves: the published list is the one before.
-    pub(crate) fn submit<W: Wait>(
+    pub(crate) fn submit<H: Wait>(
         &mut self,
-        rt: &W,
+        rt: &H,
         domain: &Domain,
         command: &Command,
     ) -> Result<Receipt, Refusal>
@@ -85,7 +85,9 @@ impl<S: Alter + Drop, J: ServiceBrand> PublisherWithFollowers<S, J> {
         ensures last { IfOk result (λ receipt. EndsWith receipt.list command.now) }
         ensures reason { IfErr result IsServiceRefusal }
         ensures quiet { IsQuiet self.new.phase }
-        ensures ok { IfOk result (λ receipt. (receipt ≡ grown self.old.line command.now) × (self.new ≡ record self.old { phase = Ready; line = grown self.old.line command.now; commands = []; tables = self.new.tables })) }
+        ensures ok { IfOk result (λ receipt.
+            (receipt ≡ grown self.old.line command.now)
+            × (self.new ≡ record self.old { phase = Ready; line = grown self.old.line command.now; commands = []; tables = self.new.tables })) }
         ensures took { OnOk result (Takes self.old command.now) }
         ensures err { IfErr result (λ reason. IsNotAcknowledged S.Store self.old command.now reason self.new) }
         ensures clean { HasCleanDisk (state S.Store self.new.tables) → HasCleanDisk (state S.Store self.old.tables) }
@@ -108,9 +110,9 @@ impl<S: Alter + Drop, J: ServiceBrand> PublisherWithFollowers<S, J> {
     /// # Errors
     ///
     /// Those of `Publisher::submit_all`, with what each leaves: the published list is the one before.
-    pub(crate) fn submit_all<W: Wait>(
+    pub(crate) fn submit_all<H: Wait>(
         &mut self,
-        rt: &W,
+        rt: &H,
         domain: &Domain,
         commands: &[Command],
     ) -> Result<Receipt, Refusal>
@@ -120,7 +122,9 @@ impl<S: Alter + Drop, J: ServiceBrand> PublisherWithFollowers<S, J> {
         ensures last { IfOk result (λ receipt. EndsWithAll receipt.list commands.now) }
         ensures reason { IfErr result IsServiceRefusal }
         ensures quiet { IsQuiet self.new.phase }
-        ensures ok { IfOk result (λ receipt. (receipt ≡ grown_by self.old.line commands.now) × (self.new ≡ record self.old { phase = Ready; line = grown_by self.old.line commands.now; commands = []; tables = self.new.tables })) }
+        ensures ok { IfOk result (λ receipt.
+            (receipt ≡ grown_by self.old.line commands.now)
+            × (self.new ≡ record self.old { phase = Ready; line = grown_by self.old.line commands.now; commands = []; tables = self.new.tables })) }
         ensures took { OnOk result (TakesAll self.old commands.now) }
         ensures err { IfErr result (λ reason. AreNotAcknowledged S.Store self.old commands.now reason self.new) }
         ensures clean { HasCleanDisk (state S.Store self.new.tables) → HasCleanDisk (state S.Store self.old.tables) }
@@ -142,9 +146,9 @@ impl<S: Alter + Drop, J: ServiceBrand> PublisherWithFollowers<S, J> {
     /// # Errors
     ///
     /// Those of `Publisher::submit_set`, with what each leaves: the published list is the one before.
-    pub(crate) fn submit_set<W: Wait>(
+    pub(crate) fn submit_set<H: Wait>(
         &mut self,
-        rt: &W,
+        rt: &H,
         domain: &Domain,
         set: ChangeSet,
         commands: &[Command],
@@ -156,7 +160,9 @@ impl<S: Alter + Drop, J: ServiceBrand> PublisherWithFollowers<S, J> {
         ensures last { IfOk result (λ receipt. EndsWithAll receipt.list commands.now) }
         ensures reason { IfErr result IsServiceRefusal }
         ensures quiet { IsQuiet self.new.phase }
-        ensures ok { IfOk result (λ receipt. (receipt ≡ grown_by self.old.line commands.now) × (self.new ≡ record self.old { phase = Ready; line = grown_by self.old.line commands.now; commands = []; tables = self.new.tables })) }
+        ensures ok { IfOk result (λ receipt.
+            (receipt ≡ grown_by self.old.line commands.now)
+            × (self.new ≡ record self.old { phase = Ready; line = grown_by self.old.line commands.now; commands = []; tables = self.new.tables })) }
         ensures took { OnOk result (TakesAll self.old commands.now) }
         ensures err { IfErr result (λ reason. AreNotAcknowledged S.Store self.old commands.now reason self.new) }
     {
@@ -173,9 +179,9 @@ impl<S: Alter + Drop, J: ServiceBrand> PublisherWithFollowers<S, J> {
     /// # Errors
     ///
     /// `Refused`, as of `submit_all`. `Moved` if the version has another number, which it returns: nothing has changed.
-    pub(crate) fn submit_all_at<W: Wait>(
+    pub(crate) fn submit_all_at<H: Wait>(
         &mut self,
-        rt: &W,
+        rt: &H,
         domain: &Domain,
         expected: Option<u64>,
         commands: &[Command],
@@ -187,7 +193,9 @@ impl<S: Alter + Drop, J: ServiceBrand> PublisherWithFollowers<S, J> {
         ensures after { IfOk result (λ receipt. IfSome expected (λ number. IsAfter number commands.now receipt)) }
         ensures reason { IfErr result (IsWhyNotMade expected) }
         ensures quiet { IsQuiet self.new.phase }
-        ensures ok { IfOk result (λ receipt. (receipt ≡ grown_by self.old.line commands.now) × (self.new ≡ record self.old { phase = Ready; line = grown_by self.old.line commands.now; commands = []; tables = self.new.tables })) }
+        ensures ok { IfOk result (λ receipt.
+            (receipt ≡ grown_by self.old.line commands.now)
+            × (self.new ≡ record self.old { phase = Ready; line = grown_by self.old.line commands.now; commands = []; tables = self.new.tables })) }
         ensures took { OnOk result (TakesAll self.old commands.now) }
         ensures met { OnOk result (IfSome expected (λ number. number ≡ (line_state self.old.line).count)) }
         ensures err { IfErr result (λ why. AreNotMade S.Store self.old commands.now why self.new) }
@@ -306,7 +314,7 @@ impl<S: Alter + Drop, J: ServiceBrand> PublisherWithFollowers<S, J> {
     }
 
     /// Ends its front, as `Publisher::end`, and returns the same.
-    pub(crate) fn end<W: Wait>(self, rt: &W) -> Released<S>
+    pub(crate) fn end<H: Wait>(self, rt: &H) -> Released<S>
         ensures tables { result.conn ≡ self.tables }
         ensures published { result.published ≡ self.line }
         ensures quiet { IsQuiet self.phase }

@@ -90,7 +90,7 @@ impl<S: Alter + Drop, J: ServiceBrand> Service<S, J> {
     /// `Exists`, `NoSuch`, `Full` or `CountFull`, as the command is refused; `Busy` (lookers may hold 64 retired versions
     /// after a second still) and `NoMemory`: nothing has changed. `StoreFailed` and `NotPublished`, with what
     /// `Publisher::submit` leaves: from then on each command is refused with `Closed`, and lookers go on.
-    pub fn submit<W: Wait + Clock>(&self, rt: &W, command: &Command) -> Result<Receipt, Refusal>
+    pub fn submit<H: Wait + Clock>(&self, rt: &H, command: &Command) -> Result<Receipt, Refusal>
         requires { IsStorable command.now }
         ensures of { IfOk result (λ receipt. (receipt.book ≡ J.book) × (receipt.base ≡ J.base)) }
         ensures last { IfOk result (λ receipt. EndsWith receipt.list command.now) }
@@ -106,8 +106,8 @@ impl<S: Alter + Drop, J: ServiceBrand> Service<S, J> {
         self.try_submit(rt, command)
     }
 
-    /// The same without a pause: `Busy` comes at once.
-    fn try_submit<W: Wait + Clock>(&self, rt: &W, command: &Command) -> Result<Receipt, Refusal>
+    /// Submits a command as `submit` does, without a pause: `Busy` comes at once.
+    fn try_submit<H: Wait + Clock>(&self, rt: &H, command: &Command) -> Result<Receipt, Refusal>
         requires { IsStorable command.now }
         ensures of { IfOk result (λ receipt. (receipt.book ≡ J.book) × (receipt.base ≡ J.base)) }
         ensures last { IfOk result (λ receipt. EndsWith receipt.list command.now) }
@@ -120,7 +120,7 @@ impl<S: Alter + Drop, J: ServiceBrand> Service<S, J> {
     }
 
     /// Has a command submitted by itself, and counts it.
-    fn submit_alone<W: Wait + Clock>(&self, rt: &W, command: &Command) -> Result<Receipt, Refusal>
+    fn submit_alone<H: Wait + Clock>(&self, rt: &H, command: &Command) -> Result<Receipt, Refusal>
         requires { IsStorable command.now }
         ensures of { IfOk result (λ receipt. (receipt.book ≡ J.book) × (receipt.base ≡ J.base)) }
         ensures last { IfOk result (λ receipt. EndsWith receipt.list command.now) }
@@ -134,9 +134,9 @@ impl<S: Alter + Drop, J: ServiceBrand> Service<S, J> {
     }
 
     /// Has a command submitted together with those that wait. `None` if it can't wait, or was left out of its group.
-    fn submit_in_group<W: Wait + Clock>(
+    fn submit_in_group<H: Wait + Clock>(
         &self,
-        rt: &W,
+        rt: &H,
         command: &Command,
     ) -> Option<Result<Receipt, Refusal>>
         requires { IsStorable command.now }
@@ -159,7 +159,7 @@ impl<S: Alter + Drop, J: ServiceBrand> Service<S, J> {
 
     /// Waits for clients that were answered with the last group, as long as more of them come back. Without it half of
     /// them would be on their way while the other half is stored, and each sync would serve half as many.
-    fn await_others<W: Wait + Clock>(&self, rt: &W) {
+    fn await_others<H: Wait + Clock>(&self, rt: &H) {
         let mut before = 0;
         for _ in 0..MOST_WAITS {
             let pause = self.lobby.lock(rt).pause_since(before);
@@ -172,7 +172,7 @@ impl<S: Alter + Drop, J: ServiceBrand> Service<S, J> {
     }
 
     /// Submits the commands that wait once the publisher is free, and answers those that were submitted.
-    fn submit_waiting<W: Wait + Clock>(&self, rt: &W) {
+    fn submit_waiting<H: Wait + Clock>(&self, rt: &H) {
         let mut publisher = self.publisher.lock(rt);
         self.await_others(rt);
         let waiting = self.lobby.lock(rt).take_all(self.alloc);
@@ -196,9 +196,9 @@ impl<S: Alter + Drop, J: ServiceBrand> Service<S, J> {
     ///
     /// As of `submit`: the first command is refused that is refused in the state after those before it. `NoMemory` may
     /// come at any command up to that.
-    pub fn submit_all<W: Wait + Clock>(
+    pub fn submit_all<H: Wait + Clock>(
         &self,
-        rt: &W,
+        rt: &H,
         commands: &[Command],
     ) -> Result<Receipt, Refusal>
         requires some { 1 ≤ length commands.now }
@@ -214,15 +214,15 @@ impl<S: Alter + Drop, J: ServiceBrand> Service<S, J> {
         }
     }
 
-    /// The same, if the published version has the expected number, where one is given. The number is looked at under the
-    /// lock under which the commands are made, again at each try.
+    /// Submits commands as `submit_all` does, if the published version has the expected number, or none is expected. The
+    /// number is read under the lock under which the commands are submitted, again at each try.
     ///
     /// # Errors
     ///
     /// `Refused`, as of `submit_all`. `Moved` if the version has another number, which it returns: nothing has changed.
-    pub fn submit_all_at<W: Wait + Clock>(
+    pub fn submit_all_at<H: Wait + Clock>(
         &self,
-        rt: &W,
+        rt: &H,
         expected: Option<u64>,
         commands: &[Command],
     ) -> Result<Receipt, SubmitError>
@@ -235,7 +235,7 @@ impl<S: Alter + Drop, J: ServiceBrand> Service<S, J> {
     {
         for _ in 0..MOST_PAUSES {
             let became = self.try_submit_all_at(rt, expected, commands);
-            if !had_no_room(&became) {
+            if !is_busy_at(&became) {
                 return became;
             }
             thread::sleep(rt, Duration::from_millis(PAUSE));
@@ -243,10 +243,10 @@ impl<S: Alter + Drop, J: ServiceBrand> Service<S, J> {
         self.try_submit_all_at(rt, expected, commands)
     }
 
-    /// The same without a pause: `Busy` comes at once.
-    fn try_submit_all_at<W: Wait + Clock>(
+    /// Submits commands as `submit_all_at` does, without a pause: `Busy` comes at once.
+    fn try_submit_all_at<H: Wait + Clock>(
         &self,
-        rt: &W,
+        rt: &H,
         expected: Option<u64>,
         commands: &[Command],
     ) -> Result<Receipt, SubmitError>
@@ -260,7 +260,7 @@ impl<S: Alter + Drop, J: ServiceBrand> Service<S, J> {
         let mut publisher = self.publisher.lock(rt);
         let watch = Stopwatch::start(rt);
         let became = publisher.submit_all_at(rt, &self.domain, expected, commands);
-        note_made(
+        note_at(
             &mut publisher,
             commands.len() as u64,
             &became,
@@ -270,7 +270,7 @@ impl<S: Alter + Drop, J: ServiceBrand> Service<S, J> {
     }
 
     /// Returns the number of the published version.
-    pub fn number<W: Wait>(&self, rt: &W) -> u64 {
+    pub fn number<H: Wait>(&self, rt: &H) -> u64 {
         self.publisher.lock(rt).published().number()
     }
 
@@ -279,7 +279,7 @@ impl<S: Alter + Drop, J: ServiceBrand> Service<S, J> {
     /// # Errors
     ///
     /// `Full` if 64 lookers have places, or no reader is left. The service is then as it was.
-    pub fn looker<W: Wait>(&self, rt: &W) -> Result<Looker, Refusal>
+    pub fn looker<H: Wait>(&self, rt: &H) -> Result<Looker, Refusal>
         ensures of { IfOk result (λ looker. (looker.known.book ≡ J.book) × (looker.known.base ≡ J.base)) }
         ensures offline { IfOk result (λ looker. (looker.held ≡ None) × (looker.announced ≡ None)) }
         ensures reason { IfErr result (λ reason. reason ≡ Refusal.Full) }
@@ -305,7 +305,7 @@ impl<S: Alter + Drop, J: ServiceBrand> Service<S, J> {
     ///
     /// `NotFetched` if the version has as many owners as can be counted, `NoMemory`, and `Closed` if following has
     /// ended or there is no memory for one more. The service is then as it was.
-    pub fn follow<W: Wait>(&self, rt: &W) -> Result<(Follower<J>, Arc<Version>), Refusal>
+    pub fn follow<H: Wait>(&self, rt: &H) -> Result<(Follower<J>, Arc<Version>), Refusal>
         ensures of { IfOk result (λ made. (made.0.book ≡ J.book) × (made.0.base ≡ J.base)) }
         ensures version { IfOk result (λ made. arc_value made.1 ≡ line_state made.0) }
         ensures reason { IfErr result IsFollowRefusal }
@@ -328,9 +328,9 @@ impl<S: Alter + Drop, J: ServiceBrand> Service<S, J> {
     }
 
     /// Lets a follower go that has left, and that knew this list.
-    pub(crate) fn unfollow<W: Wait>(
+    pub(crate) fn unfollow<H: Wait>(
         &self,
-        rt: &W,
+        rt: &H,
         follower: FollowerNumber,
         told: Told,
     ) -> Unfollowed
@@ -340,7 +340,7 @@ impl<S: Alter + Drop, J: ServiceBrand> Service<S, J> {
     }
 
     /// Ends following: each follower gets the commands that wait for it, and then none. None is made from then on.
-    pub fn end_following<W: Wait>(&self, rt: &W) {
+    pub fn end_following<H: Wait>(&self, rt: &H) {
         self.publisher.lock(rt).end_following();
     }
 
@@ -350,7 +350,7 @@ impl<S: Alter + Drop, J: ServiceBrand> Service<S, J> {
     }
 
     /// Takes a reader back, for the next looker.
-    pub(crate) fn take_back<W: Wait>(&self, rt: &W, reader: FrontReader) -> Returned
+    pub(crate) fn take_back<H: Wait>(&self, rt: &H, reader: FrontReader) -> Returned
         requires { (reader.book ≡ J.book) × (reader.base ≡ J.base) }
         ensures { result ≡ reader }
     {
@@ -358,18 +358,18 @@ impl<S: Alter + Drop, J: ServiceBrand> Service<S, J> {
     }
 
     /// Returns the library's error of the commit that closed the publisher, if one did.
-    pub fn failure<W: Wait>(&self, rt: &W) -> Option<Error> {
+    pub fn failure<H: Wait>(&self, rt: &H) -> Option<Error> {
         self.publisher.lock(rt).failure()
     }
 
     /// Returns what the publisher shows of itself, all at one moment. The lock is held for as long as it takes to copy it, and
     /// nothing changes.
-    pub fn figures<W: Wait>(&self, rt: &W) -> Figures {
+    pub fn figures<H: Wait>(&self, rt: &H) -> Figures {
         figures_of(&self.publisher.lock(rt))
     }
 
     /// Returns how many retired versions are kept for lookers, and which looker holds them back. Nothing changes.
-    pub fn retention<W: Wait>(&self, rt: &W) -> Retention {
+    pub fn retention<H: Wait>(&self, rt: &H) -> Retention {
         self.domain.retention(rt)
     }
 
@@ -384,7 +384,7 @@ impl<S: Alter + Drop, J: ServiceBrand> Service<S, J> {
     }
 
     /// Ends the service and its front, which waits for readers that are inside, and returns the same as `release`.
-    pub fn end<W: Wait>(self, rt: &W) -> Released<S>
+    pub fn end<H: Wait>(self, rt: &H) -> Released<S>
         ensures { IsReleased S.Store J.book J.base J.ours_first result.published result.conn }
     {
         self.publisher.into_inner().end(rt)
@@ -406,8 +406,8 @@ fn note<S: Alter + Drop, J: ServiceBrand>(
     }
 }
 
-/// The same of commands that were to be made at a number.
-fn note_made<S: Alter + Drop, J: ServiceBrand>(
+/// Counts commands that were submitted at an expected number, or notes why they were refused.
+fn note_at<S: Alter + Drop, J: ServiceBrand>(
     publisher: &mut PublisherWithFollowers<S, J>,
     commands: u64,
     became: &Result<Receipt, SubmitError>,
@@ -427,7 +427,7 @@ fn is_busy(became: &Result<Receipt, Refusal>) -> bool {
     matches!(became, Err(Refusal::Busy))
 }
 
-/// The same of commands that were to be made at a number.
-fn had_no_room(became: &Result<Receipt, SubmitError>) -> bool {
+/// Checks whether there was no room for one more retired version, for commands that were submitted at an expected number.
+fn is_busy_at(became: &Result<Receipt, SubmitError>) -> bool {
     matches!(became, Err(SubmitError::Refused(Refusal::Busy)))
 }

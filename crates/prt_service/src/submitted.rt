@@ -22,7 +22,7 @@ pub(crate) struct Submitted<J: ServiceBrand> {
 
 impl<J: ServiceBrand> Submitted<J> {
     /// Sends the answers.
-    pub(crate) fn answer<W: Wait>(self, rt: &W)
+    pub(crate) fn answer<H: Wait>(self, rt: &H)
         requires { AreAnswered J.book J.base self.waiting.items self.became }
     {
         let Submitted { waiting, became } = self;

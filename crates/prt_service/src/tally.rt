@@ -47,7 +47,13 @@ impl Tally {
 
     /// Counts a submission of so many commands that was acknowledged. A count stays at its greatest value.
     pub(crate) fn count(&mut self, commands: u64, commit: Commit)
-        ensures { self.new ≡ record { groups = counted_more self.old.groups 1; commands = counted_more self.old.commands commands; last = Some commit; closed_by = self.old.closed_by } }
+        ensures { self.new ≡ record {
+          groups = counted_more self.old.groups 1;
+          commands = counted_more self.old.commands commands;
+          last =
+              Some commit;
+          closed_by = self.old.closed_by;
+        } }
     {
         self.groups = self.groups.saturating_add(1);
         self.commands = self.commands.saturating_add(commands);

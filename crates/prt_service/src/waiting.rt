@@ -87,7 +87,7 @@ impl<J: ServiceBrand> Waiting<J> {
     }
 
     /// Answers the one that waits for the command.
-    pub(crate) fn answer<W: Wait>(self, rt: &W, became: Result<Receipt, Refusal>)
+    pub(crate) fn answer<H: Wait>(self, rt: &H, became: Result<Receipt, Refusal>)
         requires { IsAnswer J.book J.base self became }
     {
         let answer = Answer {

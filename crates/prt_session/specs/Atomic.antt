@@ -1,5 +1,6 @@
 -- What an atomic file does: its commands are made together or not at all, once all its lines are read.
-use Rattle.std.specs.Prelude.{◌≡◌, ◌≢◌, ◌⊎◌, ℕ, zero, suc, ◌+◌, nat_lt, if◌then◌else◌, false, List, [], ◌∷◌, ◌++◌, find, length, Option, Some, None, IfSome, Result, Ok, Err}
+use Rattle.std.specs.Prelude.{◌≡◌, ◌≢◌, ◌⊎◌, ℕ, zero, suc, ◌+◌, nat_lt, if◌then◌else◌, false, List, [], ◌∷◌, ◌++◌, find, length, Option, Some, None}
+use Rattle.std.specs.Prelude.{IfSome, Result, Ok, Err}
 use Rattle.std.specs.Io.KnownBytes.{Appends}
 use Rattle.prt_refusals.specs.declared.on_refusal.OnRefusal.TheVariants.{Stop}
 use Rattle.prt_refusals.specs.declared.refusal.Refusal.{Refusal}
@@ -29,7 +30,9 @@ with_command commands command (Some mishap) = record { reply = Refused NoMemory;
 
 -- A command is collected, in silence. A query is refused, and so is a command more than there may be.
 abbrev pub collect_turn : TurnsOf (List Command) Mishap
-collect_turn commands (requests.Command command) mishap = if nat_lt (length commands) MOST_TOGETHER then with_command commands command mishap else record { reply = Refused TooManyCommands; desk = commands }
+collect_turn commands (requests.Command command) mishap =
+    if nat_lt (length commands) MOST_TOGETHER then with_command commands command mishap
+    else record { reply = Refused TooManyCommands; desk = commands }
 collect_turn commands (requests.Query query) mishap = record { reply = Refused UnknownVerb; desk = commands }
 
 -- memory alone can fail a reading
@@ -60,7 +63,8 @@ pub record ReadIs (commands : List Command) (reader0 reader writer0 writer : Opt
   pub bytes_left : IfSome reader0 (λ _. reader ≡ Some ((collected input mishaps).unread ++ beyond))
   pub refused_is : end.refused ≡ refused_in false (alone refusal)
   pub wrote : (Appends writer0 writer (replies_text (alone refusal)) × (end.fault ≡ fault_in None (alone refusal)))
-      ⊎ ((reply : Reply) × (part : List ℕ) × (cut_off : List ℕ) × (refusal ≡ Some reply) × (replies_text (alone refusal) ≡ part ++ cut_off) × Appends writer0 writer part × (end.fault ≡ Some WriteFault))
+      ⊎ ((reply : Reply) × (part : List ℕ) × (cut_off : List ℕ) × (refusal ≡ Some reply) × (replies_text (alone refusal) ≡ part ++ cut_off)
+      × Appends writer0 writer part × (end.fault ≡ Some WriteFault))
 
 -- ---- what comes of it
 
@@ -105,9 +109,11 @@ desk_after desk (command ∷ commands) = settled (fold desk.published (command �
 
 -- all commands are accepted, stored and published, each with a number of its own
 abbrev pub AllMade : DeskState → List Command → Outcome → Type 0
-AllMade desk commands made = IsAccepted desk.published commands × (made.replies ≡ accepted_after desk.published.count (length commands)) × (made.desk ≡ desk_after desk commands)
+AllMade desk commands made = IsAccepted desk.published commands × (made.replies ≡ accepted_after desk.published.count (length commands))
+    × (made.desk ≡ desk_after desk commands)
 
--- A refused list leaves the desk as it was, or closes it. After a failed store call nothing more is stored; after a failed commit perhaps all commands are, and after a refused publication they are.
+-- A refused list leaves the desk as it was, or closes it. After a failed store call nothing more is stored; after a failed commit
+-- perhaps all commands are, and after a refused publication they are.
 abbrev pub IsDeskAfter : DeskState → List Command → Refusal → DeskState → Type 0
 IsDeskAfter desk commands reason after =
     (after ≡ desk)
@@ -116,7 +122,8 @@ IsDeskAfter desk commands reason after =
 
 -- a refusal is the only reply, queries are answered as before, and all or none of the commands are stored
 abbrev pub NoneMade : DeskState → List Command → Outcome → Type 0
-NoneMade desk commands made = (reason : Refusal) × (made.replies ≡ Refused reason ∷ []) × (made.desk.published ≡ desk.published) × IsDeskAfter desk commands reason made.desk
+NoneMade desk commands made = (reason : Refusal) × (made.replies ≡ Refused reason ∷ []) × (made.desk.published ≡ desk.published)
+    × IsDeskAfter desk commands reason made.desk
 
 -- ---- a run
 
@@ -127,14 +134,16 @@ WroteReplies told writer0 writer fault =
     ⊎ ((part : List ℕ) × (cut_off : List ℕ) × (told ≢ []) × (replies_text told ≡ part ++ cut_off) × Appends writer0 writer part × (fault ≡ Some WriteFault))
 
 -- A list was submitted, and what comes of it was written.
-pub record SubmittedIs (may : Mishap → Type 0) (desk0 desk : DeskState) (commands : List Command) (writer0 writer : Option (List ℕ)) (end : ScriptEnd) : Type 0 where
+pub record SubmittedIs (may : Mishap → Type 0) (desk0 desk : DeskState) (commands : List Command) (writer0 writer : Option (List ℕ))
+    (end : ScriptEnd) : Type 0 where
   pub mishap : Option Mishap
   pub befalls : IfSome mishap may
   pub leaves : desk ≡ (submitted desk0 commands mishap).desk
   pub refused_is : end.refused ≡ refused_in false (submitted desk0 commands mishap).replies
   pub wrote : WroteReplies (submitted desk0 commands mishap).replies writer0 writer end.fault
 
--- A run of an atomic file is the outcome of what the reader had, up to its fault if one came. Memory alone may have failed its reading, and what befell the list may befall it. What the reading leaves unread is still to be read.
+-- A run of an atomic file is the outcome of what the reader had, up to its fault if one came. Memory alone may have failed its
+-- reading, and what befell the list may befall it. What the reading leaves unread is still to be read.
 pub record AtomicIs (may : Mishap → Type 0) (desk0 desk : DeskState) (reader0 reader writer0 writer : Option (List ℕ)) (end : ScriptEnd) : Type 0 where
   pub input : Input
   pub mishaps : List (Option Mishap)

@@ -15,7 +15,8 @@ use Rattle.prt_version.specs.Accepted.{refusal_all}
 use Rattle.prt_version.specs.Change.{refusal, apply, fold}
 use Rattle.prt_version.specs.State.{State}
 
--- What a desk represents: the state that its queries are answered from, the state that is stored, and whether it is closed. The two states are the same while the desk is open.
+-- What a desk represents: the state that its queries are answered from, the state that is stored, and whether it is closed. The
+-- two states are the same while the desk is open.
 pub record DeskState : Type 0 where
   pub published : State
   pub stored : State

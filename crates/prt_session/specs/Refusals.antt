@@ -1,7 +1,8 @@
 -- What a run over the plain desk, and one over a closed desk, refuses for.
 use Rattle.std.specs.Prelude.{◌≡◌, Bool, true, false, List, ℕ, Some, Ok, Err, ⊤}
 use Rattle.prt_refusals.specs.declared.refusal.Refusal.{Refusal}
-use Rattle.prt_refusals.specs.declared.refusal.Refusal.TheVariants.{LineTooLong, Closed, Busy, NoMemory, StoreFailed, NotPublished, NotFetched, Damaged, OpenFailed, ReadFault, WriteFault, TooManyLines}
+use Rattle.prt_refusals.specs.declared.refusal.Refusal.TheVariants.{LineTooLong, Closed, Busy, NoMemory, StoreFailed, NotPublished, NotFetched}
+use Rattle.prt_refusals.specs.declared.refusal.Refusal.TheVariants.{Damaged, OpenFailed, ReadFault, WriteFault, TooManyLines}
 use Rattle.prt_command.specs.Reading.{reading}
 use Rattle.prt_command.specs.declared.request.Command.{Command}
 use Rattle.prt_command.specs.declared.request.Request.TheVariants as requests

@@ -22,8 +22,10 @@ refused_in had replies = fold refused_after had replies
 unfoldable pub fault_in : Option Refusal → List Reply → Option Refusal
 fault_in last replies = fold fault_after last replies
 
--- The writer got all replies of the session, in this form, on all that the reader had, up to its fault if one came; what the session leaves unread is still to be read.
-pub record RanWhole {D M : Type 0} (form : Form) (input : Input) (session : Session D M) (reader0 reader writer0 writer : Option (List ℕ)) (fault : Option Refusal) : Type 0 where
+-- The writer got all replies of the session, in this form, on all that the reader had, up to its fault if one came; what the
+-- session leaves unread is still to be read.
+pub record RanWhole {D M : Type 0} (form : Form) (input : Input) (session : Session D M) (reader0 reader writer0 writer : Option (List ℕ))
+    (fault : Option Refusal) : Type 0 where
   pub beyond : List ℕ
   pub bytes_before : IfSome reader0 (λ bytes. bytes ≡ input.bytes ++ beyond)
   pub whole : input.ending ≡ end_of_input → beyond ≡ []
@@ -31,8 +33,10 @@ pub record RanWhole {D M : Type 0} (form : Form) (input : Input) (session : Sess
   pub wrote : Appends writer0 writer (replies_in form (replies session))
   pub fault_is : fault ≡ fault_in None (replies session)
 
--- After a fault of the writer: of the last reply of the session on what was read a part was written, perhaps none or all of it. The other session is the one in which the reader fails at that place.
-pub record Cut {D M : Type 0} (form : Form) (input : Input) (session faulty : Session D M) (reader0 reader writer0 writer : Option (List ℕ)) (fault : Option Refusal) : Type 0 where
+-- After a fault of the writer: of the last reply of the session on what was read a part was written, perhaps none or all of it.
+-- The other session is the one in which the reader fails at that place.
+pub record Cut {D M : Type 0} (form : Form) (input : Input) (session faulty : Session D M) (reader0 reader writer0 writer : Option (List ℕ))
+    (fault : Option Refusal) : Type 0 where
   pub told : List Reply
   pub last : Reply
   pub part : List ℕ
@@ -48,15 +52,18 @@ pub record Cut {D M : Type 0} (form : Form) (input : Input) (session faulty : Se
   pub wrote : Appends writer0 writer (replies_in form told ++ part)
   pub fault_is : fault ≡ Some WriteFault
 
--- A run is the session on what was read, with its replies in this form. What befell each line may befall it. The run went on to the session's end or was cut off by a fault of the writer.
-pub record RunsIn {D M : Type 0} (form : Form) (turn : TurnsOf D M) (may : Mishaps D M) (mode : OnRefusal) (desk0 desk : D) (reader0 reader writer0 writer : Option (List ℕ)) (end : ScriptEnd) : Type 0 where
+-- A run is the session on what was read, with its replies in this form. What befell each line may befall it. The run went on to
+-- the session's end or was cut off by a fault of the writer.
+pub record RunsIn {D M : Type 0} (form : Form) (turn : TurnsOf D M) (may : Mishaps D M) (mode : OnRefusal) (desk0 desk : D)
+    (reader0 reader writer0 writer : Option (List ℕ)) (end : ScriptEnd) : Type 0 where
   pub input : Input
   pub mishaps : List (Option M)
   pub leaves : desk ≡ (session turn desk0 input mode mishaps).desk
   pub path : Path turn may desk0 (session turn desk0 input mode mishaps).exchanges desk
   pub refused_is : end.refused ≡ refused_in false (replies (session turn desk0 input mode mishaps))
   pub ended : RanWhole form input (session turn desk0 input mode mishaps) reader0 reader writer0 writer end.fault
-      ⊎ Cut form input (session turn desk0 input mode mishaps) (session turn desk0 (record input { ending = read_fault }) mode mishaps) reader0 reader writer0 writer end.fault
+      ⊎ Cut form input (session turn desk0 input mode mishaps)
+      (session turn desk0 (record input { ending = read_fault }) mode mishaps) reader0 reader writer0 writer end.fault
 
 -- a run whose replies are written as they are
 abbrev pub RunIs : {D M : Type 0} → TurnsOf D M → Mishaps D M → OnRefusal → D → D → (reader0 reader writer0 writer : Option (List ℕ)) → ScriptEnd → Type 0

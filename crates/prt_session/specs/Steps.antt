@@ -1,5 +1,6 @@
 -- What the parts of a run do: one read, one line, one reply.
-use Rattle.std.specs.Prelude.{◌≡◌, ℕ, ◌+◌, ◌≤◌, ◌==◌, ◌≢◌, Bool, true, false, List, [], ◌∷◌, ◌++◌, length, Option, Some, IfSome, Result, Ok, Err, if◌then◌else◌, ⊤}
+use Rattle.std.specs.Prelude.{◌≡◌, ℕ, ◌+◌, ◌≤◌, ◌==◌, ◌≢◌, Bool, true, false, List, [], ◌∷◌, ◌++◌, length, Option, Some, IfSome, Result, Ok, Err}
+use Rattle.std.specs.Prelude.{if◌then◌else◌, ⊤}
 use Rattle.std.specs.List.{All}
 use Rattle.std.specs.Io.KnownBytes.{Consumes, IsAtEnd}
 use Rattle.prt_refusals.specs.declared.refusal.Refusal.{Refusal}
@@ -84,7 +85,9 @@ AreSubmittable commands = (length commands ≤ MOST_TOGETHER) × All IsStorable 
 
 -- the turn of commands that are made together or not at all
 abbrev pub CommandsGive : (Mishap → Type 0) → DeskState → List Command → Result ℕ Refusal → DeskState → Type 0
-CommandsGive may desk0 commands result desk = (mishap : Option Mishap) × IfSome mishap may × (result ≡ (commands_turn desk0 commands mishap).result) × (desk ≡ (commands_turn desk0 commands mishap).desk)
+CommandsGive may desk0 commands result desk =
+    (mishap : Option Mishap) × IfSome mishap may × (result ≡ (commands_turn desk0 commands mishap).result)
+    × (desk ≡ (commands_turn desk0 commands mishap).desk)
 
 -- the reply to a line that was read to there
 abbrev pub AnswerIs : {D M : Type 0} → TurnsOf D M → Mishaps D M → D → Stop → List ℕ → Reply → D → Type 0

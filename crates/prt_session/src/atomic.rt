@@ -49,10 +49,10 @@ pub fn collect_commands<R: Read, W: Write, O: Observer>(
 {
     let mut collector = Collector::new(alloc);
     let end = run_session(
-        &(),
         &mut collector,
         reader,
         writer,
+        Form::Plain,
         OnRefusal::Stop,
         observer,
     );
@@ -81,7 +81,8 @@ fn submit<D: Desk, W: Write>(desk: &mut D, commands: &Vec<Command>, writer: &mut
     requires some { 1 ≤ length commands.now.items }
     requires most { length commands.now.items ≤ MOST_TOGETHER }
     requires storable { All IsStorable commands.now.items }
-    ensures run { Explained D.stands desk.old desk.new (λ before after. SubmittedIs D.may before after commands.now.items (W.contents writer.old) (W.contents writer.new) result) }
+    ensures run { Explained D.stands desk.old desk.new
+        (λ before after. SubmittedIs D.may before after commands.now.items (W.contents writer.old) (W.contents writer.new) result) }
     ensures left { StandsForSome D.stands desk.old → StandsForSome D.stands desk.new }
     ensures keeps { D.keeps desk.old desk.new }
 {

@@ -3,7 +3,7 @@ ghost use Rattle.prt_session.specs.Check.{ChecksLines};
 
 use crate::executor::Executor;
 use crate::form::Form;
-use crate::session::run_session_in;
+use crate::session::run_session;
 use prt_command::Request;
 use prt_refusals::OnRefusal;
 use prt_replies::{Observer, Reply, ScriptEnd};
@@ -13,7 +13,7 @@ use std::io::{Read, Write};
 #[derive(Clone, Copy)]
 struct Idle;
 
-impl Executor<()> for Idle {
+impl Executor for Idle {
     ghost use Rattle.std.specs.Prelude.{⊤};
     ghost use Rattle.prt_session.specs.Check.{NothingBefalls, nothing_turn};
 
@@ -33,11 +33,11 @@ impl Executor<()> for Idle {
 
     ghost fits = { λ _. ⊤ };
 
-    fn execute(&mut self, _context: &(), _request: &Request) -> Reply {
+    fn execute(&mut self, _request: &Request) -> Reply {
         Reply::Silent
     }
 
-    fn pass(&mut self, _context: &()) {}
+    fn pass(&mut self) {}
 }
 
 /// Reads the lines of an input as a session under `OnRefusal::GoOn` does, executes none of them, and writes each refusal
@@ -53,8 +53,7 @@ pub fn check_lines<R: Read, W: Write, O: Observer>(
 ) -> ScriptEnd
     ensures { ChecksLines (R.remaining reader.old) (R.remaining reader.new) (W.contents writer.old) (W.contents writer.new) result }
 {
-    run_session_in(
-        &(),
+    run_session(
         &mut Idle,
         reader,
         writer,

@@ -36,7 +36,7 @@ impl Collector {
     }
 }
 
-impl Executor<()> for Collector {
+impl Executor for Collector {
     ghost use Rattle.std.specs.Prelude.{◌≡◌, List, ⊤};
     ghost use Rattle.prt_command.specs.declared.request.Command.{Command};
     ghost use Rattle.prt_session.specs.Atomic.{CollectMay, collect_turn};
@@ -59,7 +59,7 @@ impl Executor<()> for Collector {
 
     ghost fits = { λ collector. AreSubmittable collector.commands.items };
 
-    fn execute(&mut self, _context: &(), request: &Request) -> Reply {
+    fn execute(&mut self, request: &Request) -> Reply {
         let Some(command) = command_of(request) else {
             return Reply::Refused(Refusal::UnknownVerb);
         };
@@ -72,5 +72,5 @@ impl Executor<()> for Collector {
         }
     }
 
-    fn pass(&mut self, _context: &()) {}
+    fn pass(&mut self) {}
 }

@@ -7,12 +7,14 @@ ghost use Rattle.prt_refusals.specs.declared.on_refusal.OnRefusal.TheVariants.{G
 
 /// What comes after a refused line is left unread.
 pub fn unread_rest()
-    ensures { (session_on Stop (codes "route add 10/8 via 192.0.2.1\nroute add 10/8 via 192.0.2.2\nroute show\n") end_of_input []).unread ≡ codes "route show\n" }
+    ensures { (session_on Stop (codes "route add 10/8 via 192.0.2.1\nroute add 10/8 via 192.0.2.2\nroute show\n") end_of_input []).unread
+        ≡ codes "route show\n" }
 {}
 
 /// What a check writes of some lines: a blank one counts, and what a command would be refused for is not seen.
 pub fn checked_lines()
-    ensures refusals { refusals_of (codes "route add 10/8 via 192.0.2.1\n\nroute add 10/8 via 192.0.2.2\nroute add 10/8 mtu 9\n# end\nlink\nrule show") end_of_input
+    ensures refusals { refusals_of
+        (codes "route add 10/8 via 192.0.2.1\n\nroute add 10/8 via 192.0.2.2\nroute add 10/8 mtu 9\n# end\nlink\nrule show") end_of_input
         ≡ codes "4: error 5 UnknownWord\n6: error 3 UnknownObject\n" }
     ensures read_fault { refusals_of (codes "route get\nroute get 1") read_fault ≡ codes "1: error 14 MissingDestination\n2: error 32 ReadFault\n" }
 {}
@@ -29,9 +31,12 @@ pub fn mishaps()
 
 /// Long lines, and a line without an end.
 pub fn line_limits()
-    ensures longest { replies_to GoOn (codes "rule show" ++ replicate 1015 32) end_of_input [] ≡ codes "0:\tfrom all lookup local\n32766:\tfrom all lookup main\n32767:\tfrom all lookup default\nend 3\n" }
-    ensures longest_ended { replies_to GoOn (codes "rule show" ++ replicate 1015 32 ++ codes "\n") end_of_input [] ≡ codes "0:\tfrom all lookup local\n32766:\tfrom all lookup main\n32767:\tfrom all lookup default\nend 3\n" }
-    ensures too_long { replies_to GoOn (codes "rule show" ++ replicate 1016 32 ++ codes "\nroute get 1") end_of_input [] ≡ codes "error 1 LineTooLong\nanswer 0 none\n" }
+    ensures longest { replies_to GoOn (codes "rule show" ++ replicate 1015 32) end_of_input []
+        ≡ codes "0:\tfrom all lookup local\n32766:\tfrom all lookup main\n32767:\tfrom all lookup default\nend 3\n" }
+    ensures longest_ended { replies_to GoOn (codes "rule show" ++ replicate 1015 32 ++ codes "\n") end_of_input []
+        ≡ codes "0:\tfrom all lookup local\n32766:\tfrom all lookup main\n32767:\tfrom all lookup default\nend 3\n" }
+    ensures too_long { replies_to GoOn (codes "rule show" ++ replicate 1016 32 ++ codes "\nroute get 1") end_of_input []
+        ≡ codes "error 1 LineTooLong\nanswer 0 none\n" }
     ensures endless { replies_to GoOn (replicate 65537 32 ++ codes "\nroute get 1\n") end_of_input [] ≡ codes "error 1 LineTooLong\n" }
     ensures unread { (session_on GoOn (replicate 65537 32 ++ codes "\nroute get 1\n") end_of_input []).unread ≡ codes "\nroute get 1\n" }
 {}

@@ -1,11 +1,11 @@
 use prt_command::Request;
 use prt_replies::Reply;
 
-/// Executes the requests of a session, in a context.
+/// Executes the requests of a session.
 ///
 /// What it may represent, and what may befall a request, are types of its own. A desk represents the states of its
 /// tables, and an executor that shares them with others represents what it knows of them.
-pub trait Executor<C> {
+pub trait Executor {
     ghost use Rattle.std.specs.Prelude.{◌≡◌, Option};
     ghost use Rattle.prt_command.specs.Storable.{IsStorableRequest};
     ghost use Rattle.prt_command.specs.declared.request.Request.{Request};
@@ -32,11 +32,11 @@ pub trait Executor<C> {
     /// What every request leaves as it was.
     ghost keeps: { Self → Self → Type 0 };
 
-    /// Whether it belongs to the context.
+    /// Whether it can take requests.
     ghost fits: { Self → Type 0 };
 
     /// Executes a request, whose routes and rules may be stored, and returns the reply to it.
-    fn execute(&mut self, context: &C, request: &Request) -> Reply
+    fn execute(&mut self, request: &Request) -> Reply
         requires fits { fits self.old }
         requires storable { IsStorableRequest request.now }
         ensures fits { fits self.new }
@@ -46,7 +46,7 @@ pub trait Executor<C> {
 
     /// Takes note of a line that asks for nothing of it, or of what comes in place of a line: a blank line, a refused one,
     /// one that a fault cuts off, or one more than there may be. Comes before the reply to that is written.
-    fn pass(&mut self, context: &C)
+    fn pass(&mut self)
         requires { fits self.old }
         ensures fits { fits self.new }
         ensures same { Explained stands self.old self.new (λ before after. after ≡ before) }

@@ -11,7 +11,7 @@ use std::io::Write;
 
 /// How the replies of a session are written down.
 #[derive(Clone, Copy)]
-pub(crate) enum Form {
+pub enum Form {
     /// Each as it is.
     Plain,
     /// The refusals alone, each after the number of its line, from 1: `LINE: error C NAME`.

@@ -43,7 +43,8 @@ pub fn closed_replies()
 /// the desk as it was.
 pub fn all_or_none()
     ensures made { (desk : DeskState) (input : Input) (mishaps : List (Option Mishap)) (mishap : Option Mishap) →
-        AllMade desk (collected input mishaps).desk (atomic_output desk input mishaps mishap) ⊎ NoneMade desk (collected input mishaps).desk (atomic_output desk input mishaps mishap) }
+        AllMade desk (collected input mishaps).desk (atomic_output desk input mishaps mishap)
+        ⊎ NoneMade desk (collected input mishaps).desk (atomic_output desk input mishaps mishap) }
     ensures unchanged { (desk : DeskState) (input : Input) (mishaps : List (Option Mishap)) (mishap : Option Mishap) (reason : Refusal) →
         (atomic_output desk input mishaps mishap).replies ≡ Refused reason ∷ [] → code_of reason ≤ 26 → (atomic_output desk input mishaps mishap).desk ≡ desk }
 {}

@@ -21,6 +21,7 @@ pub use atomic::{CommandsRead, collect_commands, run_atomic, write_accepted};
 pub use check::check_lines;
 pub use desk::Desk;
 pub use executor::Executor;
+pub use form::Form;
 pub use input::{ByteRead, next_byte};
 pub use laws::{all_or_none, closed_replies, list_replies, session_ends};
 pub use limits::MOST_TOGETHER;

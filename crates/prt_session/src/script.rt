@@ -4,6 +4,7 @@ ghost use Rattle.prt_session.specs.Stands.{Explained, StandsForSome};
 
 use crate::desk::Desk;
 use crate::executor::Executor;
+use crate::form::Form;
 use crate::session::run_session;
 use prt_command::Request;
 use prt_refusals::OnRefusal;
@@ -11,10 +12,18 @@ use prt_replies::{Observer, Reply, ScriptEnd, Text};
 use std::alloc::Global;
 use std::io::{Read, Write};
 
-/// A desk executes requests in memory from an allocator.
-impl<D: Desk> Executor<Global> for D {
-    ghost use Rattle.std.specs.Prelude.{⊤};
+/// A desk that executes the requests of a script.
+#[derive(Drop)]
+struct AtDesk<'d, D: Desk> {
+    desk: &'d mut D,
+    /// Where answers take memory from.
+    alloc: Global,
+}
+
+impl<'d, D: Desk> Executor for AtDesk<'d, D> {
+    ghost use Rattle.std.specs.Prelude.{◌≡◌, ⊤};
     ghost use Rattle.prt_session.specs.Desk.{Befalls, DeskState, Mishap, request_turn};
+    ghost use Rattle.prt_session.specs.Preorder.{at_part};
 
     ghost Desk = { DeskState };
 
@@ -24,23 +33,23 @@ impl<D: Desk> Executor<Global> for D {
 
     ghost may = { Befalls D.may };
 
-    ghost stands = { D.stands };
+    ghost stands = { λ at state. D.stands at.desk.now state };
 
-    ghost keeps = { D.keeps };
+    ghost keeps = { λ old new. (new.desk.ghost_name ≡ old.desk.ghost_name) × D.keeps old.desk.now new.desk.now };
 
-    ghost keeps_over_all = { D.keeps_over_all };
+    ghost keeps_over_all = { at_part (λ at. at.desk.ghost_name) (λ at. at.desk.now) D.keeps_over_all };
 
     ghost fits = { λ _. ⊤ };
 
-    fn execute(&mut self, alloc: &Global, request: &Request) -> Reply {
+    fn execute(&mut self, request: &Request) -> Reply {
         match request {
-            Request::Command(command) => match self.command(command) {
+            Request::Command(command) => match self.desk.command(command) {
                 Ok(number) => Reply::Accepted(number),
                 Err(refusal) => Reply::Refused(refusal),
             },
             Request::Query(query) => {
-                let mut text = Vec::new(*alloc);
-                match self.answer(query, &mut text) {
+                let mut text = Vec::new(self.alloc);
+                match self.desk.answer(query, &mut text) {
                     Ok(()) => Reply::Answered(Text::new(text)),
                     Err(refusal) => Reply::Refused(refusal),
                 }
@@ -48,7 +57,7 @@ impl<D: Desk> Executor<Global> for D {
         }
     }
 
-    fn pass(&mut self, _alloc: &Global) {}
+    fn pass(&mut self) {}
 }
 
 /// Runs a script over a desk, as `run_session` does with any executor.
@@ -67,5 +76,9 @@ pub fn run_script<D: Desk, R: Read, W: Write, O: Observer>(
     ensures left { StandsForSome D.stands desk.old → StandsForSome D.stands desk.new }
     ensures keeps { D.keeps desk.old desk.new }
 {
-    run_session(&alloc, desk, reader, writer, mode, observer)
+    let mut at = AtDesk {
+        desk: &mut *desk,
+        alloc,
+    };
+    run_session(&mut at, reader, writer, Form::Plain, mode, observer)
 }

@@ -22,7 +22,8 @@ pub fn scripts()
         ≡ codes "ok 1\nok 2\nok 3\nok 4\nok 5\n11.0.0.0/8 dev b table 7 scope link\n10.0.0.0/8 dev a scope link\nend 2\nok 6\nend 0\n" }
     ensures force { replies_to GoOn (codes "route add 10/8 via 192.0.2.1\nroute add 10/8 via 192.0.2.2\nroute show\n") end_of_input []
         ≡ codes "ok 1\nerror 21 Exists\n10.0.0.0/8 via 192.0.2.1\nend 1\n" }
-    ensures full_route_text { replies_to GoOn (codes "route add 192.0.2.0/24 dev eth0 proto kernel scope link src 192.0.2.10 metric 100\nroute show\n") end_of_input []
+    ensures full_route_text { replies_to GoOn
+        (codes "route add 192.0.2.0/24 dev eth0 proto kernel scope link src 192.0.2.10 metric 100\nroute show\n") end_of_input []
         ≡ codes "ok 1\n192.0.2.0/24 dev eth0 proto kernel scope link src 192.0.2.10 metric 100\nend 1\n" }
     ensures longest_prefix { replies_to GoOn (codes "route add 0/0 dev a0\nroute add 10/8 dev a1\nroute add 10.1/16 dev a2\nroute add 10.1.2.3/32 dev a3\nroute get 10.1.2.3\nroute get 11\n") end_of_input []
         ≡ codes "ok 1\nok 2\nok 3\nok 4\nanswer 4 rule 32766 table main 10.1.2.3 dev a3 scope link\nanswer 4 rule 32766 table main default dev a0 scope link\n" }

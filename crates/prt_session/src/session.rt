@@ -1,6 +1,6 @@
 //! The loop over the lines of a session.
 ghost use Rattle.std.specs.Prelude.{◌≡◌, ◌≤◌, ℕ, List, length};
-ghost use Rattle.prt_session.specs.Run.{RunIs, RunsIn};
+ghost use Rattle.prt_session.specs.Run.{RunsIn};
 ghost use Rattle.prt_session.specs.Session.{stops_after};
 ghost use Rattle.prt_session.specs.Stands.{Explained, StandsForSome};
 ghost use Rattle.prt_session.specs.Steps.{AnswerIs, EndsAfterLast, EndsWith, LineGives, ends_after, is_nothing};
@@ -16,68 +16,63 @@ use std::io::{Read, Write};
 
 /// Does what a line asks for.
 #[tactic(auto, unfolding(crate::specs::Session::line_turn, crate::specs::Session::LineMay))]
-fn execute_line<C, E: Executor<C>>(context: &C, executor: &mut E, line: &[u8]) -> Reply
-    requires { E.fits executor.old }
-    ensures fits { E.fits executor.new }
-    ensures turn { Explained E.stands executor.old executor.new (λ before after. LineGives E.turn E.may before line.now result after) }
-    ensures left { StandsForSome E.stands executor.old → StandsForSome E.stands executor.new }
-    ensures keeps { E.keeps executor.old executor.new }
+fn execute_line<X: Executor>(executor: &mut X, line: &[u8]) -> Reply
+    requires { X.fits executor.old }
+    ensures fits { X.fits executor.new }
+    ensures turn { Explained X.stands executor.old executor.new (λ before after. LineGives X.turn X.may before line.now result after) }
+    ensures left { StandsForSome X.stands executor.old → StandsForSome X.stands executor.new }
+    ensures keeps { X.keeps executor.old executor.new }
 {
     match read_line(line) {
         Err(refusal) => {
-            executor.pass(context);
+            executor.pass();
             Reply::Refused(refusal)
         }
         Ok(None) => {
-            executor.pass(context);
+            executor.pass();
             Reply::Silent
         }
-        Ok(Some(request)) => executor.execute(context, &request),
+        Ok(Some(request)) => executor.execute(&request),
     }
 }
 
 /// Replies to a whole line of this many bytes, which `line` has if they are not too many.
-fn reply_to_whole<C, E: Executor<C>>(
-    context: &C,
-    executor: &mut E,
-    count: usize,
-    line: &[u8],
-) -> Reply
-    requires { E.fits executor.old }
-    ensures fits { E.fits executor.new }
+fn reply_to_whole<X: Executor>(executor: &mut X, count: usize, line: &[u8]) -> Reply
+    requires { X.fits executor.old }
+    ensures fits { X.fits executor.new }
     ensures turn { (content : List ℕ) → length content ≡ count → (count ≤ LONGEST_LINE → line.now ≡ content) →
-        Explained E.stands executor.old executor.new (λ before after. LineGives E.turn E.may before content result after) }
-    ensures left { StandsForSome E.stands executor.old → StandsForSome E.stands executor.new }
-    ensures keeps { E.keeps executor.old executor.new }
+        Explained X.stands executor.old executor.new (λ before after. LineGives X.turn X.may before content result after) }
+    ensures left { StandsForSome X.stands executor.old → StandsForSome X.stands executor.new }
+    ensures keeps { X.keeps executor.old executor.new }
 {
     let is_long = count > LONGEST_LINE;
     if is_long {
-        executor.pass(context);
+        executor.pass();
         return Reply::Refused(Refusal::LineTooLong);
     }
-    execute_line(context, executor, line)
+    execute_line(executor, line)
 }
 
 /// Replies to what was read of a line.
-fn reply_to<C, E: Executor<C>>(context: &C, executor: &mut E, read: LineRead, line: &[u8]) -> Reply
-    requires { E.fits executor.old }
-    ensures fits { E.fits executor.new }
+fn reply_to<X: Executor>(executor: &mut X, read: LineRead, line: &[u8]) -> Reply
+    requires { X.fits executor.old }
+    ensures fits { X.fits executor.new }
     ensures turn { (content : List ℕ) → length content ≡ read.length → (read.length ≤ LONGEST_LINE → line.now ≡ content) →
-        Explained E.stands executor.old executor.new (λ before after. AnswerIs E.turn E.may before read.stop content result after) }
-    ensures left { StandsForSome E.stands executor.old → StandsForSome E.stands executor.new }
-    ensures keeps { E.keeps executor.old executor.new }
+        Explained X.stands executor.old executor.new (λ before after. AnswerIs X.turn X.may before read.stop content result after) }
+    ensures left { StandsForSome X.stands executor.old → StandsForSome X.stands executor.new }
+    ensures keeps { X.keeps executor.old executor.new }
 {
     match read.stop {
         Stop::Fault => {
-            executor.pass(context);
+            executor.pass();
             Reply::Refused(Refusal::ReadFault)
         }
         Stop::Endless => {
-            executor.pass(context);
+            executor.pass();
             Reply::Refused(Refusal::LineTooLong)
         }
-        Stop::Newline => reply_to_whole(context, executor, read.length, line),
-        Stop::End => reply_to_whole(context, executor, read.length, line),
+        Stop::Newline => reply_to_whole(executor, read.length, line),
+        Stop::End => reply_to_whole(executor, read.length, line),
     }
 }
 
@@ -153,21 +148,20 @@ fn end_after_last<R: Read, W: Write>(
 /// writer, of any kind, and at the first byte after `MOST_LINES` lines or after `LONGEST_UNENDED` bytes of a line. A
 /// line of more than `LONGEST_LINE` bytes is refused. The observer is called before and after each line. The replies
 /// are written in the given form.
-pub(crate) fn run_session_in<C, E: Executor<C>, R: Read, W: Write, O: Observer>(
-    context: &C,
-    executor: &mut E,
+pub fn run_session<X: Executor, R: Read, W: Write, O: Observer>(
+    executor: &mut X,
     reader: &mut R,
     writer: &mut W,
     form: Form,
     mode: OnRefusal,
     observer: &mut O,
 ) -> ScriptEnd
-    requires { E.fits executor.old }
-    ensures fits { E.fits executor.new }
-    ensures run { Explained E.stands executor.old executor.new (λ before after. RunsIn form E.turn E.may mode before after
+    requires { X.fits executor.old }
+    ensures fits { X.fits executor.new }
+    ensures run { Explained X.stands executor.old executor.new (λ before after. RunsIn form X.turn X.may mode before after
         (R.remaining reader.old) (R.remaining reader.new) (W.contents writer.old) (W.contents writer.new) result) }
-    ensures left { StandsForSome E.stands executor.old → StandsForSome E.stands executor.new }
-    ensures keeps { E.keeps executor.old executor.new }
+    ensures left { StandsForSome X.stands executor.old → StandsForSome X.stands executor.new }
+    ensures keeps { X.keeps executor.old executor.new }
 {
     let mut line = ArrayVec::<u8, LONGEST_LINE>::new();
     let mut end = ScriptEnd::OPENING;
@@ -179,7 +173,7 @@ pub(crate) fn run_session_in<C, E: Executor<C>, R: Read, W: Write, O: Observer>(
         let number = count as u64 + 1;
         observer.before(number);
         let text = line.as_slice();
-        let reply = reply_to(context, executor, read, text);
+        let reply = reply_to(executor, read, text);
         end = end.with_reply(&reply);
         let is_written = form.write(writer, number, &reply);
         observer.after(number, text, &reply);
@@ -190,33 +184,6 @@ pub(crate) fn run_session_in<C, E: Executor<C>, R: Read, W: Write, O: Observer>(
             return end;
         }
     }
-    executor.pass(context);
+    executor.pass();
     end_after_last(reader, writer, form, end)
-}
-
-/// Runs a session as `run_session_in` does, and writes each reply as it is.
-pub fn run_session<C, E: Executor<C>, R: Read, W: Write, O: Observer>(
-    context: &C,
-    executor: &mut E,
-    reader: &mut R,
-    writer: &mut W,
-    mode: OnRefusal,
-    observer: &mut O,
-) -> ScriptEnd
-    requires { E.fits executor.old }
-    ensures fits { E.fits executor.new }
-    ensures run { Explained E.stands executor.old executor.new (λ before after. RunIs E.turn E.may mode before after
-        (R.remaining reader.old) (R.remaining reader.new) (W.contents writer.old) (W.contents writer.new) result) }
-    ensures left { StandsForSome E.stands executor.old → StandsForSome E.stands executor.new }
-    ensures keeps { E.keeps executor.old executor.new }
-{
-    run_session_in(
-        context,
-        executor,
-        reader,
-        writer,
-        Form::Plain,
-        mode,
-        observer,
-    )
 }

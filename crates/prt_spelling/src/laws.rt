@@ -33,7 +33,8 @@ pub fn values_read_back()
 
 /// Each line of a command that can be expressed asks for the command.
 pub fn lines_are_read()
-    ensures { (form : ProtocolForm) (command : Command) → CommandFits command → is_spelled command ≡ true → reading (line_by form command) ≡ Ok (Some (requests.Command command)) }
+    ensures { (form : ProtocolForm) (command : Command) → CommandFits command → is_spelled command ≡ true →
+        reading (line_by form command) ≡ Ok (Some (requests.Command command)) }
 {}
 
 /// A line can express each command that a line asks for.

@@ -4,7 +4,9 @@ ghost use Rattle.prt_route.specs.Kind.{kind_name};
 ghost use Rattle.prt_listing.specs.Parts.{part};
 ghost use Rattle.prt_listing.specs.RuleText.{action_text};
 ghost use Rattle.prt_listing.specs.Steps.{part_of, value_text};
-ghost use Rattle.prt_spelling.specs.Parts.{given_mark_part, given_mark_text, given_of, given_of_route, global_part, has_unsaid_scope, is_zero_mark, prefix_part, proto_part, protocol_text, range_part, ranged, route_choice_parts, rule_choice_parts, said, said_kind, scope_part, selector_parts, tables_text};
+ghost use Rattle.prt_spelling.specs.Parts.{given_mark_part, given_mark_text, given_of, given_of_route, global_part, has_unsaid_scope, is_zero_mark};
+ghost use Rattle.prt_spelling.specs.Parts.{prefix_part, proto_part, protocol_text, range_part, ranged, route_choice_parts, rule_choice_parts, said};
+ghost use Rattle.prt_spelling.specs.Parts.{said_kind, scope_part, selector_parts, tables_text};
 
 use crate::form::ProtocolForm;
 use prt_command::NewRule;

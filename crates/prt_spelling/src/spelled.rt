@@ -4,7 +4,8 @@ ghost use Rattle.std.specs.List.{list_all};
 ghost use Rattle.prt_route.specs.Name.{is_name};
 ghost use Rattle.prt_rule.specs.Storable.{is_length, is_storable_rule};
 ghost use Rattle.prt_spelling.specs.Plain.{is_plain_byte, is_plain_name};
-ghost use Rattle.prt_spelling.specs.Spelled.{gives_some, is_from_one, is_spelled, is_spelled_action, is_spelled_choice, is_spelled_route, is_spelled_rule, is_spelled_rule_choice, is_spelled_selector};
+ghost use Rattle.prt_spelling.specs.Spelled.{gives_some, is_from_one, is_spelled, is_spelled_action, is_spelled_choice, is_spelled_route};
+ghost use Rattle.prt_spelling.specs.Spelled.{is_spelled_rule, is_spelled_rule_choice, is_spelled_selector};
 
 use prt_command::{Command, NewRule};
 use prt_route::{Dev, Route, RouteChoice, Selector, read_dev};

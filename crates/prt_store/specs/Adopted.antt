@@ -14,13 +14,15 @@ use Rattle.prt_rows.specs.Tables.{meta_table, our_tables}
 use Rattle.prt_store.specs.Stored.{Stores}
 use Rattle.prt_version.specs.State.{opening_state}
 
--- Each table that was there is there with its rows, but that the row of `meta`, which was that of format 1, is now that of format 2 with the same count. Of ours some may have been made, which have no rows.
+-- Each table that was there is there with its rows, but that the row of `meta`, which was that of format 1, is now that of format
+-- 2 with the same count. Of ours some may have been made, which have no rows.
 pub record MigratesTables (old new : Database) : Type 0 where
   pub count : ℕ
   pub was : IsOfFormat1 old count
   pub row : new.trees meta_table.tree ≡ kept_count count ∷ []
   pub there : Has new.schema.tables meta_table
-  pub kept : (table : Table) → Has old.schema.tables table → table.tree ≢ meta_table.tree → Has new.schema.tables table × (new.trees table.tree ≡ old.trees table.tree)
+  pub kept : (table : Table) → Has old.schema.tables table → table.tree ≢ meta_table.tree →
+      Has new.schema.tables table × (new.trees table.tree ≡ old.trees table.tree)
   pub made : (table : Table) → Has new.schema.tables table → Has old.schema.tables table ⊎ (Has our_tables table × (new.trees table.tree ≡ []))
 
 -- The four tables had no rows, and now encode the opening state. Each other table is there with its rows, and no other was
@@ -28,7 +30,8 @@ pub record MigratesTables (old new : Database) : Type 0 where
 pub record IsFilled (old new : Database) : Type 0 where
   pub empty : AreEmpty old
   pub opening : Stores new opening_state
-  pub others : (table : Table) → Has old.schema.tables table → (Has our_tables table → ⊥) → Has new.schema.tables table × (new.trees table.tree ≡ old.trees table.tree)
+  pub others : (table : Table) → Has old.schema.tables table → (Has our_tables table → ⊥) →
+      Has new.schema.tables table × (new.trees table.tree ≡ old.trees table.tree)
   pub made : (table : Table) → Has new.schema.tables table → Has old.schema.tables table ⊎ Has our_tables table
 
 -- each table has the rows that it had, and the file had rows and was not of format 1
@@ -37,7 +40,8 @@ pub record KeepsFile (old new : Database) : Type 0 where
   pub not_due : (count : ℕ) → IsOfFormat1 old count → ⊥
   pub keeps : KeepsTables old new
 
--- What an opening leaves: the four tables are the first, and each table has the rows that it had, or the file was of format 1 and is of format 2, or the four had no rows and were filled.
+-- What an opening leaves: the four tables are the first, and each table has the rows that it had, or the file was of format 1 and
+-- is of format 2, or the four had no rows and were filled.
 pub record Adopts (old new : Database) : Type 0 where
   pub tables : IsFormat2 new.schema
   pub rows : KeepsFile old new ⊎ (MigratesTables old new ⊎ IsFilled old new)
@@ -85,6 +89,7 @@ pub record AdoptsOne {S : Type 0} (g : Ghosts S) (IsFound : Held S → Type 0) (
 pub record RefusesOne {S : Type 0} (g : Ghosts S) (IsFound : Held S → Type 0) (left : Held S) : Type 0 where
   pub was : Held S
   pub found : IsFound was
-  pub part : HasCleanDisk (state g left) → IsTrue (state g left).is_open → BeginsFormat2 (state g was).now.schema → AdoptsPart (state g was).now (state g left).now
+  pub part : HasCleanDisk (state g left) → IsTrue (state g left).is_open → BeginsFormat2 (state g was).now.schema →
+      AdoptsPart (state g was).now (state g left).now
   pub other_columns : (SuitsFormat2 (state g was).now.schema → ⊥) → left ≡ was
   pub survives : (HasCleanDisk (state g was) → BeginsFormat2 (state g was).now.schema) → Survives (state g was) (state g left) (LeavesPart (state g was).now)

@@ -26,7 +26,8 @@ Refuses g sql params error old new = ExecutesInside 0 sql params (state g old) (
 -- the statement was refused with this error or, if there is a length, ran and then the one that inserts it was refused
 abbrev pub RefusesWith : {S : Type 0} → Ghosts S → Word → Row → Option RuleLength → Error → Held S → Held S → Type 0
 RefusesWith g text values None error old new = Refuses g text values error old new
-RefusesWith g text values (Some length) error old new = Refuses g text values error old new ⊎ InTurn (Ran g text values) (Refuses g insert_suppress (suppress_row length) error) old new
+RefusesWith g text values (Some length) error old new =
+    Refuses g text values error old new ⊎ InTurn (Ran g text values) (Refuses g insert_suppress (suppress_row length) error) old new
 
 -- the rows of the change were not written, for this error
 abbrev pub RefusesRows : {S : Type 0} → Ghosts S → Change → Error → Held S → Held S → Type 0
@@ -42,9 +43,14 @@ FailsFor g made number old Begin left failure = failure ≡ None
 FailsFor {S = S} g made number old Write left failure =
     (error : Error) × (failure ≡ Some error) × (HasCleanDisk (state g left) → (refused : Held S) × RefusesRows g made error (begun_from old) refused)
 FailsFor {S = S} g made number old Count left failure =
-    (error : Error) × (failure ≡ Some error) × (HasCleanDisk (state g left) → (written : Held S) × Writes g made old written × (refused : Held S) × Refuses g set_count (count_values number) error written refused)
+    (error : Error) × (failure ≡ Some error)
+    × (HasCleanDisk (state g left) →
+    (written : Held S) × Writes g made old written × (refused : Held S) × Refuses g set_count (count_values number) error written refused)
 FailsFor {S = S} g made number old Commit left failure =
-    (error : Error) × (failure ≡ Some error) × (HasCleanDisk (state g left) → (written : Held S) × Writes g made old written × (counted : Held S) × Counts g number written counted × FailsToCommit (state g counted) (state g left) error)
+    (error : Error) × (failure ≡ Some error)
+    × (HasCleanDisk (state g left) →
+    (written : Held S) × Writes g made old written × (counted : Held S) × Counts g number written counted
+    × FailsToCommit (state g counted) (state g left) error)
 
 -- ---- several changes
 
@@ -59,6 +65,11 @@ AllFailFor g changes number old Begin left failure = failure ≡ None
 AllFailFor {S = S} g changes number old Write left failure =
     (error : Error) × (failure ≡ Some error) × (HasCleanDisk (state g left) → (refused : Held S) × RefusesOneOf g changes error (begun_from old) refused)
 AllFailFor {S = S} g changes number old Count left failure =
-    (error : Error) × (failure ≡ Some error) × (HasCleanDisk (state g left) → (written : Held S) × WritesEach g changes old written × (refused : Held S) × Refuses g set_count (count_values number) error written refused)
+    (error : Error) × (failure ≡ Some error)
+    × (HasCleanDisk (state g left) →
+    (written : Held S) × WritesEach g changes old written × (refused : Held S) × Refuses g set_count (count_values number) error written refused)
 AllFailFor {S = S} g changes number old Commit left failure =
-    (error : Error) × (failure ≡ Some error) × (HasCleanDisk (state g left) → (written : Held S) × WritesEach g changes old written × (counted : Held S) × Counts g number written counted × FailsToCommit (state g counted) (state g left) error)
+    (error : Error) × (failure ≡ Some error)
+    × (HasCleanDisk (state g left) →
+    (written : Held S) × WritesEach g changes old written × (counted : Held S) × Counts g number written counted
+    × FailsToCommit (state g counted) (state g left) error)

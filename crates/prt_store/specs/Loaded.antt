@@ -12,7 +12,8 @@ use Rattle.prt_store.specs.Adopted.{IsSettled}
 abbrev pub StaysSettled : {S : Type 0} → Ghosts S → Held S → Held S → Type 0
 StaysSettled g old new = IsSettled g new × ((state g new).now ≡ (state g old).now)
 
--- Whatever the file, nothing is changed after `Ok`, and a crash leaves what it could leave before. After a refusal nothing is changed either, if the connection is still open and nothing was pending.
+-- Whatever the file, nothing is changed after `Ok`, and a crash leaves what it could leave before. After a refusal nothing is
+-- changed either, if the connection is still open and nothing was pending.
 pub record ReadsOnly {S X : Type 0} (g : Ghosts S) (old new : Held S) (result : Result X Refusal) : Type 0 where
   pub reason : IfErr result IsOpenRefusal
   pub same : HasCleanDisk (state g new) → OnOk result (IsUnchanged (state g old) (state g new))

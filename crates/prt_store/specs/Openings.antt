@@ -104,8 +104,10 @@ pub record MakesMissing {S : Type 0} (g : Ghosts S) (table : OurTable) (old new 
 
 -- from tables such as these the opening went on to tables such as those, with all rows
 pub record Advances {S : Type 0} (g : Ghosts S) (From To : Schema → Type 0) (old new : Held S) (result : Result (Unit {0}) Refusal) : Type 0 where
-  pub ok : HasCleanDisk (state g new) → From (state g old).now.schema → OnOk result (To (state g new).now.schema × KeepsTables (state g old).now (state g new).now)
-  pub err : HasCleanDisk (state g new) → IsTrue (state g new).is_open → From (state g old).now.schema → OnErr result (AdoptsPart (state g old).now (state g new).now)
+  pub ok : HasCleanDisk (state g new) → From (state g old).now.schema →
+      OnOk result (To (state g new).now.schema × KeepsTables (state g old).now (state g new).now)
+  pub err : HasCleanDisk (state g new) → IsTrue (state g new).is_open → From (state g old).now.schema →
+      OnErr result (AdoptsPart (state g old).now (state g new).now)
   pub crash : (HasCleanDisk (state g old) → From (state g old).now.schema) → Survives (state g old) (state g new) (LeavesPart (state g old).now)
 
 -- the table has no rows
@@ -124,7 +126,8 @@ IsDue db = (count : ℕ) × IsOfFormat1 db count
 -- or what an opening leaves.
 pub record OpensTables {S : Type 0} (g : Ghosts S) (old new : Held S) (result : Result (Unit {0}) Refusal) : Type 0 where
   pub ok : HasCleanDisk (state g new) → BeginsFormat2 (state g old).now.schema → OnOk result (Adopts (state g old).now (state g new).now × IsSettled g new)
-  pub err : HasCleanDisk (state g new) → IsTrue (state g new).is_open → BeginsFormat2 (state g old).now.schema → OnErr result (AdoptsPart (state g old).now (state g new).now)
+  pub err : HasCleanDisk (state g new) → IsTrue (state g new).is_open → BeginsFormat2 (state g old).now.schema →
+      OnErr result (AdoptsPart (state g old).now (state g new).now)
   pub crash : (HasCleanDisk (state g old) → BeginsFormat2 (state g old).now.schema) → Survives (state g old) (state g new) (LeavesPart (state g old).now)
 
 -- ---- of whatever file
@@ -132,7 +135,8 @@ pub record OpensTables {S : Type 0} (g : Ghosts S) (old new : Held S) (result : 
 -- the table was there and nothing was done, or it was made in a transaction of its own
 pub record MakesTable {S : Type 0} (g : Ghosts S) (table : OurTable) (old new : Held S) : Type 0 where
   pub there : has_table (table_of table).name (state g old).now.schema ≡ true → new ≡ old
-  pub missing : has_table (table_of table).name (state g old).now.schema ≡ false → HasDone g (Takes g (step.Make table)) old (state g new).committed × IsSettled g new
+  pub missing : has_table (table_of table).name (state g old).now.schema ≡ false →
+      HasDone g (Takes g (step.Make table)) old (state g new).committed × IsSettled g new
 
 abbrev pub MakesTables : {S : Type 0} → Ghosts S → Held S → Held S → Type 0
 MakesTables g = InTurn (MakesTable g ours.Rule) (InTurn (MakesTable g ours.Route) (InTurn (MakesTable g ours.Meta) (MakesTable g ours.Suppress)))
@@ -141,7 +145,8 @@ MakesTables g = InTurn (MakesTable g ours.Rule) (InTurn (MakesTable g ours.Route
 -- showed, if the connection is still open and nothing was pending.
 pub record Finds {S : Type 0} (g : Ghosts S) (Yes No : Type 0) (old new : Held S) (result : Result Bool Refusal) : Type 0 where
   pub ok : HasCleanDisk (state g new) → IfOk result (λ found. IsUnchanged (state g old) (state g new) × MatchBool found Yes No)
-  pub err : HasCleanDisk (state g new) → IsTrue (state g new).is_open → (IsTrue (state g old).is_open → (state g old).now ≡ (state g old).committed) → OnErr result ((state g new).now ≡ (state g old).now)
+  pub err : HasCleanDisk (state g new) → IsTrue (state g new).is_open →
+      (IsTrue (state g old).is_open → (state g old).now ≡ (state g old).committed) → OnErr result ((state g new).now ≡ (state g old).now)
   pub quiet : CommitsNothing g old new
 
 -- each statement that looks showed no row, and the opening state was put into the tables, in one transaction

@@ -64,7 +64,8 @@ pub record ShowsState {S : Type 0} (g : Ghosts S) (conn : Held S) (stored : Stat
   pub count : ShowsRows g conn read_meta (meta_rows stored.count)
   pub rules : ShowsInSomeOrder g conn read_rules (map rule_row stored.rules)
   pub lengths : ShowsInSomeOrder g conn read_suppress (map suppress_row (lengths_of stored.rules))
-  pub routes : (shown : List Row) × ShowsRows g conn read_routes shown × (rowids_rise shown ≡ true) × IsPermutation (map (drop 1) shown) (map route_row stored.routes)
+  pub routes : (shown : List Row) × ShowsRows g conn read_routes shown × (rowids_rise shown ≡ true)
+      × IsPermutation (map (drop 1) shown) (map route_row stored.routes)
   pub fits : FitsTables stored
 
 -- ---- damage
@@ -72,7 +73,8 @@ pub record ShowsState {S : Type 0} (g : Ghosts S) (conn : Held S) (stored : Stat
 -- The rows that the statement showed encode no list: their rowids don't rise, or a part of one of them is written for
 -- nothing that fits.
 abbrev pub ShowsBadRows : {S X : Type 0} → Ghosts S → Held S → Word → (X → Row) → (X → Type 0) → (Row → Row) → Type 0
-ShowsBadRows g conn sql write Fits part = (rows : List Row) × ShowsRows g conn sql rows × ((rowids_rise rows ≡ false) ⊎ Any (λ v. Decodes write Fits v None) (map part rows))
+ShowsBadRows g conn sql write Fits part =
+    (rows : List Row) × ShowsRows g conn sql rows × ((rowids_rise rows ≡ false) ⊎ Any (λ v. Decodes write Fits v None) (map part rows))
 
 -- `meta` showed other rows than the one of a count
 abbrev pub ShowsNoCount : {S : Type 0} → Ghosts S → Held S → Type 0

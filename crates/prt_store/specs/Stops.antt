@@ -45,19 +45,23 @@ pub record MakesCalls {S : Type 0} (g : Ghosts S) (made : Change) (number : ℕ)
   pub count : Counts g number written counted
   pub commit : MayCommit g counted new × ((state g new).committed ≡ (state g counted).now)
 
--- A commit was stopped in this call, or this call failed, and that left this connection. The calls before it were made; of the call itself nothing is said but what it may have committed.
+-- A commit was stopped in this call, or this call failed, and that left this connection. The calls before it were made; of the
+-- call itself nothing is said but what it may have committed.
 abbrev pub StoppedIn : {S : Type 0} → Ghosts S → Change → ℕ → Held S → StoreCall → Held S → Type 0
 StoppedIn g made number old Begin left = left ≡ old
 StoppedIn g made number old Write left = CommitsNothing g (begun_from old) left
 StoppedIn {S = S} g made number old Count left = (written : Held S) × Writes g made old written × CommitsNothing g written left
-StoppedIn {S = S} g made number old Commit left = (written : Held S) × Writes g made old written × (counted : Held S) × Counts g number written counted × MayCommit g counted left
+StoppedIn {S = S} g made number old Commit left =
+    (written : Held S) × Writes g made old written × (counted : Held S) × Counts g number written counted × MayCommit g counted left
 
 -- Whichever call a commit is stopped in, a crash finds the rows as they were before it, or those of the next state. The
 -- latter it finds only if the commit was stopped in the call that commits.
 abbrev pub LeavesAState : {S : Type 0} → Ghosts S → Type 0
-LeavesAState {S = S} g = (before : State) (made : Change) (number : ℕ) (old left : Held S) (call : StoreCall) → IsNext before made number → Stores (state g old).now before → IsAtRest g old
+LeavesAState {S = S} g = (before : State) (made : Change) (number : ℕ) (old left : Held S) (call : StoreCall) → IsNext before made number →
+    Stores (state g old).now before → IsAtRest g old
     → StoppedIn g made number old call left → HasCleanDisk (state g left) → (trees : Trees) → (state g left).may_leave trees
-    → (trees ≡ (state g old).now.trees) ⊎ ((call ≡ Commit) × MakesNext (state g old).now (put before made) (record { schema = (state g old).now.schema; trees = trees }))
+    → (trees ≡ (state g old).now.trees)
+    ⊎ ((call ≡ Commit) × MakesNext (state g old).now (put before made) (record { schema = (state g old).now.schema; trees = trees }))
 
 -- ---- several changes
 
@@ -78,10 +82,14 @@ abbrev pub AllStoppedIn : {S : Type 0} → Ghosts S → List Change → ℕ → 
 AllStoppedIn g changes number old Begin left = left ≡ old
 AllStoppedIn g changes number old Write left = CommitsNothing g (begun_from old) left
 AllStoppedIn {S = S} g changes number old Count left = (written : Held S) × WritesEach g changes old written × CommitsNothing g written left
-AllStoppedIn {S = S} g changes number old Commit left = (written : Held S) × WritesEach g changes old written × (counted : Held S) × Counts g number written counted × MayCommit g counted left
+AllStoppedIn {S = S} g changes number old Commit left =
+    (written : Held S) × WritesEach g changes old written × (counted : Held S) × Counts g number written counted × MayCommit g counted left
 
--- Whichever call of a commit of several changes a stop falls into, a crash finds the rows as they were or, in the call that commits alone, those of the state after all of them.
+-- Whichever call of a commit of several changes a stop falls into, a crash finds the rows as they were or, in the call that
+-- commits alone, those of the state after all of them.
 abbrev pub LeavesAllOrNone : {S : Type 0} → Ghosts S → Type 0
-LeavesAllOrNone {S = S} g = (before : State) (changes : List Change) (number : ℕ) (old left : Held S) (call : StoreCall) → AreNext before changes number → Stores (state g old).now before → IsAtRest g old
+LeavesAllOrNone {S = S} g = (before : State) (changes : List Change) (number : ℕ) (old left : Held S) (call : StoreCall) →
+    AreNext before changes number → Stores (state g old).now before → IsAtRest g old
     → AllStoppedIn g changes number old call left → HasCleanDisk (state g left) → (trees : Trees) → (state g left).may_leave trees
-    → (trees ≡ (state g old).now.trees) ⊎ ((call ≡ Commit) × MakesNext (state g old).now (put_all before changes) (record { schema = (state g old).now.schema; trees = trees }))
+    → (trees ≡ (state g old).now.trees)
+    ⊎ ((call ≡ Commit) × MakesNext (state g old).now (put_all before changes) (record { schema = (state g old).now.schema; trees = trees }))

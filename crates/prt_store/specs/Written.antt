@@ -44,7 +44,8 @@ length_put _ = None
 
 -- inside a transaction the statement runs, or is refused
 abbrev pub RunsInside : {S : Type 0} → Ghosts S → Word → Row → Held S → Held S → Result ℕ Error → Type 0
-RunsInside g sql params old new result = HasCleanDisk (state g new) → IsTrue (state g old).in_transaction → ExecutesInside 0 sql params (state g old) (state g new) result
+RunsInside g sql params old new result = HasCleanDisk (state g new) → IsTrue (state g old).in_transaction →
+    ExecutesInside 0 sql params (state g old) (state g new) result
 
 -- a crash leaves nothing that it could not leave before
 abbrev pub CommitsNothing : {S : Type 0} → Ghosts S → Held S → Held S → Type 0

@@ -106,13 +106,16 @@ pub(crate) fn make_changes<S: Alter>(
 ) -> Result<(), StoreCall>
     requires ids { Each HasStorableIds changes.now }
     requires number { number < 2 ^ 63 }
-    ensures ok { HasCleanDisk (state S.Store conn.new) → OnOk result (Each IsTyped changes.now × HasDone S.Store (MakesChanges S.Store changes.now number) conn.old (state S.Store conn.new).committed × IsSettled S.Store conn.new) }
+    ensures ok { HasCleanDisk (state S.Store conn.new) →
+        OnOk result (Each IsTyped changes.now
+        × HasDone S.Store (MakesChanges S.Store changes.now number) conn.old (state S.Store conn.new).committed × IsSettled S.Store conn.new) }
     ensures clean { HasCleanDisk (state S.Store conn.new) → OnOk result (HasCleanDisk (state S.Store conn.old)) }
     ensures begin { (result ≡ Err StoreCall.Begin) ↔ IsTrue conn.old.in_transaction }
     ensures not_begun { result ≡ Err StoreCall.Begin → conn.new ≡ conn.old }
     ensures mode { OnErr result (conn.new.in_transaction ≡ conn.old.in_transaction) }
     ensures err { HasCleanDisk (state S.Store conn.new) → IsTrue (state S.Store conn.new).is_open →
-        OnErr result (((state S.Store conn.new).now ≡ (state S.Store conn.old).now) × ((state S.Store conn.new).committed ≡ (state S.Store conn.old).committed)) }
+        OnErr result (((state S.Store conn.new).now ≡ (state S.Store conn.old).now)
+        × ((state S.Store conn.new).committed ≡ (state S.Store conn.old).committed)) }
     ensures crash_err { IfErr result (λ call. Survives (state S.Store conn.old) (state S.Store conn.new)
         (λ trees. (call ≡ StoreCall.Commit) × Each IsTyped changes.now × HasLeft S.Store (MakesChanges S.Store changes.now number) conn.old trees)) }
     ensures calls { HasCleanDisk (state S.Store conn.new) → OnOk result (MakesAllCalls S.Store changes.now number conn.old conn.new) }

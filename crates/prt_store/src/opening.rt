@@ -12,7 +12,8 @@ ghost use Rattle.prt_rows.specs.MetaRow.{meta_row};
 ghost use Rattle.prt_rows.specs.RuleRow.{rule_row};
 ghost use Rattle.prt_rows.specs.Statements.{insert_meta, insert_rule, migrate};
 ghost use Rattle.prt_store.specs.Adopted.{IsSettled, LeavesMigrated};
-ghost use Rattle.prt_store.specs.Openings.{Advances, Commits, Fills, Finds, InsertsRules, KeepsOrMigrates, MakesAndFills, MakesMissing, MakesTables, OpensTables, Ran, Takes, Works, create, table_of};
+ghost use Rattle.prt_store.specs.Openings.{Advances, Commits, Fills, Finds, InsertsRules, KeepsOrMigrates, MakesAndFills, MakesMissing, MakesTables};
+ghost use Rattle.prt_store.specs.Openings.{OpensTables, Ran, Takes, Works, create, table_of};
 ghost use Rattle.prt_store.specs.Shown.{ShowsContents, ShowsDue, ShowsFormat1, ShowsNoRow, ShowsNotDue, ShowsOtherFormat, ShowsSomeRow, look_at};
 ghost use Rattle.prt_store.specs.declared.opening.OurTable.{OurTable as OneTable};
 
@@ -271,7 +272,8 @@ pub fn migrate<S: Alter>(conn: &mut Connection<S>) -> Result<(), Refusal>
     ensures clean { HasCleanDisk (state S.Store conn.new) → HasCleanDisk (state S.Store conn.old) }
     ensures settled { HasCleanDisk (state S.Store conn.new) → IsFormat2 (state S.Store conn.old).now.schema → IsSettled S.Store conn.old →
         OnOk result (IsSettled S.Store conn.new) }
-    ensures err { HasCleanDisk (state S.Store conn.new) → IsTrue (state S.Store conn.new).is_open → IsFormat2 (state S.Store conn.old).now.schema → IsSettled S.Store conn.old →
+    ensures err { HasCleanDisk (state S.Store conn.new) → IsTrue (state S.Store conn.new).is_open →
+        IsFormat2 (state S.Store conn.old).now.schema → IsSettled S.Store conn.old →
         OnErr result ((state S.Store conn.new).now ≡ (state S.Store conn.old).now) }
     ensures crash { (HasCleanDisk (state S.Store conn.old) → IsFormat2 (state S.Store conn.old).now.schema) →
         Survives (state S.Store conn.old) (state S.Store conn.new) (LeavesMigrated (state S.Store conn.old).now) }

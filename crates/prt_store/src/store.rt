@@ -118,10 +118,13 @@ impl<S: Alter + Drop> Store<S> {
         ensures begin { (result ≡ Err (StoreFailed Begin)) ↔ IsTrue (state S.Store self.old.conn).in_transaction }
         ensures not_begun { result ≡ Err (StoreFailed Begin) → self.new.conn ≡ self.old.conn }
         ensures ok { HasCleanDisk (state S.Store self.new.conn) → OnOk result ((before : State) → IsNext before change.now number →
-            Stores (state S.Store self.old.conn).now before → MakesNext (state S.Store self.old.conn).now (put before change.now) (state S.Store self.new.conn).now) }
-        ensures ran { HasCleanDisk (state S.Store self.new.conn) → OnOk result (HasDone S.Store (MakesChange S.Store change.now number) self.old.conn (state S.Store self.new.conn).committed) }
+            Stores (state S.Store self.old.conn).now before →
+            MakesNext (state S.Store self.old.conn).now (put before change.now) (state S.Store self.new.conn).now) }
+        ensures ran { HasCleanDisk (state S.Store self.new.conn) →
+            OnOk result (HasDone S.Store (MakesChange S.Store change.now number) self.old.conn (state S.Store self.new.conn).committed) }
         ensures calls { HasCleanDisk (state S.Store self.new.conn) → OnOk result (MakesCalls S.Store change.now number self.old.conn self.new.conn) }
-        ensures stopped { HasCleanDisk (state S.Store self.new.conn) → (call : FailedCall) → result ≡ Err (StoreFailed call) → StoppedIn S.Store change.now number self.old.conn call self.new.conn }
+        ensures stopped { HasCleanDisk (state S.Store self.new.conn) → (call : FailedCall) → result ≡ Err (StoreFailed call) →
+            StoppedIn S.Store change.now number self.old.conn call self.new.conn }
         ensures settled { HasCleanDisk (state S.Store self.new.conn) → OnOk result (IsSettled S.Store self.new.conn) }
         ensures crash_ok { HasCleanDisk (state S.Store self.new.conn) → OnOk result ((trees : Trees) →
             (state S.Store self.new.conn).may_leave trees → trees ≡ (state S.Store self.new.conn).now.trees) }
@@ -134,12 +137,15 @@ impl<S: Alter + Drop> Store<S> {
         ensures crash_err { HasCleanDisk (state S.Store self.new.conn) → IfErr result (λ reason. (before : State) → IsNext before change.now number →
             Stores (state S.Store self.old.conn).now before → (trees : Trees) → (state S.Store self.new.conn).may_leave trees →
             (state S.Store self.old.conn).may_leave trees
-            ⊎ ((reason ≡ StoreFailed Commit) × MakesNext (state S.Store self.old.conn).now (put before change.now) (record { schema = (state S.Store self.old.conn).now.schema; trees = trees }))) }
+            ⊎ ((reason ≡ StoreFailed Commit)
+            × MakesNext (state S.Store self.old.conn).now (put before change.now)
+            (record { schema = (state S.Store self.old.conn).now.schema; trees = trees }))) }
         ensures left { HasCleanDisk (state S.Store self.new.conn) → IfErr result (λ reason. (before : State) → IsNext before change.now number →
             IsStored S.Store self.old.conn before → (left : State) → MayLeave S.Store self.new.conn left →
             (left ≡ before) ⊎ ((reason ≡ StoreFailed Commit) × (left ≡ put before change.now))) }
         ensures unfailed { OnOk result (self.new.failure ≡ None) }
-        ensures failure { (call : FailedCall) → result ≡ Err (StoreFailed call) → FailsFor S.Store change.now number self.old.conn call self.new.conn self.new.failure }
+        ensures failure { (call : FailedCall) → result ≡ Err (StoreFailed call) →
+            FailsFor S.Store change.now number self.old.conn call self.new.conn self.new.failure }
     {
         self.commit_all(slice::from_ref(change), number)
     }
@@ -166,10 +172,13 @@ impl<S: Alter + Drop> Store<S> {
         ensures begin { (result ≡ Err (StoreFailed Begin)) ↔ IsTrue (state S.Store self.old.conn).in_transaction }
         ensures not_begun { result ≡ Err (StoreFailed Begin) → self.new.conn ≡ self.old.conn }
         ensures ok { HasCleanDisk (state S.Store self.new.conn) → OnOk result ((before : State) → AreNext before changes.now number →
-            Stores (state S.Store self.old.conn).now before → MakesNext (state S.Store self.old.conn).now (put_all before changes.now) (state S.Store self.new.conn).now) }
-        ensures ran { HasCleanDisk (state S.Store self.new.conn) → OnOk result (HasDone S.Store (MakesChanges S.Store changes.now number) self.old.conn (state S.Store self.new.conn).committed) }
+            Stores (state S.Store self.old.conn).now before →
+            MakesNext (state S.Store self.old.conn).now (put_all before changes.now) (state S.Store self.new.conn).now) }
+        ensures ran { HasCleanDisk (state S.Store self.new.conn) →
+            OnOk result (HasDone S.Store (MakesChanges S.Store changes.now number) self.old.conn (state S.Store self.new.conn).committed) }
         ensures calls { HasCleanDisk (state S.Store self.new.conn) → OnOk result (MakesAllCalls S.Store changes.now number self.old.conn self.new.conn) }
-        ensures stopped { HasCleanDisk (state S.Store self.new.conn) → (call : FailedCall) → result ≡ Err (StoreFailed call) → AllStoppedIn S.Store changes.now number self.old.conn call self.new.conn }
+        ensures stopped { HasCleanDisk (state S.Store self.new.conn) → (call : FailedCall) → result ≡ Err (StoreFailed call) →
+            AllStoppedIn S.Store changes.now number self.old.conn call self.new.conn }
         ensures settled { HasCleanDisk (state S.Store self.new.conn) → OnOk result (IsSettled S.Store self.new.conn) }
         ensures crash_ok { HasCleanDisk (state S.Store self.new.conn) → OnOk result ((trees : Trees) →
             (state S.Store self.new.conn).may_leave trees → trees ≡ (state S.Store self.new.conn).now.trees) }
@@ -182,12 +191,15 @@ impl<S: Alter + Drop> Store<S> {
         ensures crash_err { HasCleanDisk (state S.Store self.new.conn) → IfErr result (λ reason. (before : State) → AreNext before changes.now number →
             Stores (state S.Store self.old.conn).now before → (trees : Trees) → (state S.Store self.new.conn).may_leave trees →
             (state S.Store self.old.conn).may_leave trees
-            ⊎ ((reason ≡ StoreFailed Commit) × MakesNext (state S.Store self.old.conn).now (put_all before changes.now) (record { schema = (state S.Store self.old.conn).now.schema; trees = trees }))) }
+            ⊎ ((reason ≡ StoreFailed Commit)
+            × MakesNext (state S.Store self.old.conn).now (put_all before changes.now)
+            (record { schema = (state S.Store self.old.conn).now.schema; trees = trees }))) }
         ensures left { HasCleanDisk (state S.Store self.new.conn) → IfErr result (λ reason. (before : State) → AreNext before changes.now number →
             IsStored S.Store self.old.conn before → (left : State) → MayLeave S.Store self.new.conn left →
             (left ≡ before) ⊎ ((reason ≡ StoreFailed Commit) × (left ≡ put_all before changes.now))) }
         ensures unfailed { OnOk result (self.new.failure ≡ None) }
-        ensures failure { (call : FailedCall) → result ≡ Err (StoreFailed call) → AllFailFor S.Store changes.now number self.old.conn call self.new.conn self.new.failure }
+        ensures failure { (call : FailedCall) → result ≡ Err (StoreFailed call) →
+            AllFailFor S.Store changes.now number self.old.conn call self.new.conn self.new.failure }
     {
         match make_changes(&mut self.conn, changes, number, &mut self.failure) {
             Ok(()) => Ok(Stamp { number }),

@@ -8,7 +8,7 @@ use prt_command::Refusal;
 use prt_grace::Domain;
 use prt_publisher::Publisher;
 use prt_serve::{
-    Accepting, Entrance, Kind, Limits, OpenGate, ServiceContext, Turnstile, accept, serve_all,
+    Accepting, Entrance, Kind, Limits, OpenGate, ServiceContext, Turnstile, accept, serve_sessions,
 };
 use prt_service::{Service, ServiceBrand};
 use sqlite::{Alter, Connection};
@@ -180,7 +180,7 @@ fn serve_without_looker<
         }
     }
     let context = ServiceContext::new(rt, alloc, &service, &OpenGate);
-    let end = serve_all(&context, entrances, limited_to(0)).end;
+    let end = serve_sessions(&context, entrances, limited_to(0)).end;
     match end.accepting {
         Accepting::NoWorkers => Ok(end.refused),
         Accepting::Ended | Accepting::Failed => Ok(None),

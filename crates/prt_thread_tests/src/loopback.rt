@@ -6,7 +6,7 @@ use crate::caller::{adopted, service_over};
 use prt_command::Refusal;
 use prt_grace::Domain;
 use prt_publisher::Publisher;
-use prt_serve::{Accepting, Entrance, Kind, Limits, OpenGate, ServiceContext, serve_all};
+use prt_serve::{Accepting, Entrance, Kind, Limits, OpenGate, ServiceContext, serve_sessions};
 use prt_service::{Service, ServiceBrand};
 use sqlite::{Alter, Connection};
 use std::alloc::Global;
@@ -43,7 +43,7 @@ fn converse<
     };
     let entrances = slice::from_ref(&only);
     let context = ServiceContext::new(rt, alloc, service, &OpenGate);
-    let end = serve_all(&context, entrances, limits).end;
+    let end = serve_sessions(&context, entrances, limits).end;
     let mut text = Vec::new(alloc);
     client.read_to_end(&mut text)?;
     let is_ended = matches!(end.accepting, Accepting::Ended) && end.refused.is_none();

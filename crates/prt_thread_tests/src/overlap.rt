@@ -7,7 +7,7 @@ use crossbeam_channel::{Receiver, Sender, bounded};
 use prt_command::Refusal;
 use prt_grace::Domain;
 use prt_publisher::Publisher;
-use prt_serve::{Gate, Job, Kind, Served, ServiceContext, work};
+use prt_serve::{Gate, Job, Kind, Served, ServiceContext};
 use prt_service::{Service, ServiceBrand};
 use prt_session::Reply;
 use sqlite::{Alter, Connection};
@@ -126,7 +126,7 @@ fn serve_jobs<H: Wait + Clock + Copy + Drop, S: Alter + Drop, J: ServiceBrand>(
     gate: &Meeting,
 ) -> Option<Refusal> {
     let context = ServiceContext::new(rt, alloc, service, gate);
-    match work(&context, jobs.iter(rt), let_go) {
+    match context.work(jobs.iter(rt), let_go) {
         Ok(_) => None,
         Err(reason) => Some(reason),
     }

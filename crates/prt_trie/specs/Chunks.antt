@@ -33,11 +33,13 @@ pub record AreChunks (chunks : List (List Route)) : Type 0 where
 
 -- in the order of listings the key comes before the row
 abbrev pub is_key_before : RouteKey → Route → Bool
-is_key_before key row = less_then key.table row.table (less_then key.prefix.bits row.prefix.bits (less_then key.prefix.len row.prefix.len (nat_lt key.metric row.metric)))
+is_key_before key row = less_then key.table row.table
+    (less_then key.prefix.bits row.prefix.bits (less_then key.prefix.len row.prefix.len (nat_lt key.metric row.metric)))
 
 -- it comes after the row
 abbrev pub is_key_after : RouteKey → Route → Bool
-is_key_after key row = less_then row.table key.table (less_then row.prefix.bits key.prefix.bits (less_then row.prefix.len key.prefix.len (nat_lt row.metric key.metric)))
+is_key_after key row = less_then row.table key.table
+    (less_then row.prefix.bits key.prefix.bits (less_then row.prefix.len key.prefix.len (nat_lt row.metric key.metric)))
 
 -- the edit is of the route with the key
 abbrev pub IsOfKey : RouteKey → RouteEdit → Type 0

@@ -15,4 +15,5 @@ pub record IsIndex (rows : List Route) (index : Index) : Type 0 where
   pub are_spans : AreSpans index.spans.items
   pub shift : index.slots.shift < 32
   pub directory : IsDirectory index.spans.items index.slots index.starts.items
-  pub agrees : (addr place : ℕ) (d : Span) → addr < 2 ^ 32 → IsSpanOf index.spans.items addr place → slice_get rows (slice_index_or index.spans.items place d).row ≡ best_for rows (record { 0 = addr })
+  pub agrees : (addr place : ℕ) (d : Span) → addr < 2 ^ 32 → IsSpanOf index.spans.items addr place →
+      slice_get rows (slice_index_or index.spans.items place d).row ≡ best_for rows (record { 0 = addr })

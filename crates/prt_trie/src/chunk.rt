@@ -63,7 +63,8 @@ pub(crate) fn chunk_len(rows: &[Route]) -> usize
     ensures some { 0 < result }
     ensures within { result ≤ length rows.now }
     ensures chunk { IsChunk (take result rows.now) }
-    ensures ends { result < 128 → result < length rows.now → (d : Route) → is_same_prefix (slice_index_or rows.now 0 d).prefix (slice_index_or rows.now result d).prefix ≡ false }
+    ensures ends { result < 128 → result < length rows.now → (d : Route) →
+        is_same_prefix (slice_index_or rows.now 0 d).prefix (slice_index_or rows.now result d).prefix ≡ false }
 {
     let alike = alike_len(rows, &rows[0].prefix);
     if alike > MOST_OF_CHUNK {

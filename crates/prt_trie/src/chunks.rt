@@ -1,5 +1,6 @@
 //! The routes of one table in chunks, which those before and after an edit share.
-ghost use Rattle.std.specs.Prelude.{◌≡◌, ℕ, ◌-◌, ◌<◌, ◌≤◌, ◌++◌, [], ◌∷◌, true, false, length, map, find, IfErr, IfOk, OnOk, IsPermutation, option_map, slice_index_or};
+ghost use Rattle.std.specs.Prelude.{◌≡◌, ℕ, ◌-◌, ◌<◌, ◌≤◌, ◌++◌, [], ◌∷◌, true, false, length, map, find, IfErr, IfOk, OnOk, IsPermutation};
+ghost use Rattle.std.specs.Prelude.{option_map, slice_index_or};
 ghost use Rattle.std.specs.Arc.{arc_value};
 ghost use Rattle.std.specs.List.{list_any, AllByRecursion as Each};
 ghost use Rattle.std.specs.Option.{option_copied};
@@ -43,7 +44,8 @@ impl Model for Chunks {
 
     ghost view = { λ all. rows_of_chunks (map arc_value all.chunks.items) };
 
-    ghost invariant = { λ all. AreChunks (map arc_value all.chunks.items) × (all.heads ≡ heads_of (map arc_value all.chunks.items)) × (all.len ≡ length (rows_of_chunks (map arc_value all.chunks.items))) };
+    ghost invariant = { λ all. AreChunks (map arc_value all.chunks.items) × (all.heads ≡ heads_of (map arc_value all.chunks.items))
+        × (all.len ≡ length (rows_of_chunks (map arc_value all.chunks.items))) };
 }
 
 /// Puts a chunk of these rows behind those so far.
@@ -138,8 +140,11 @@ fn chunks_around(
     rows: &[Route],
     after: &[Arc<Chunk>],
 ) -> Result<Vec<Arc<Chunk>>, AllocError>
-    ensures rows { IfOk result (λ chunks. rows_of_chunks (map arc_value chunks.items) ≡ rows_of_chunks (map arc_value before.now) ++ (rows.now ++ rows_of_chunks (map arc_value after.now))) }
-    ensures each { IfOk result (λ chunks. Each IsChunk (map arc_value before.now) → Each IsChunk (map arc_value after.now) → Each IsChunk (map arc_value chunks.items)) }
+    ensures rows { IfOk result (λ chunks.
+        rows_of_chunks (map arc_value chunks.items)
+        ≡ rows_of_chunks (map arc_value before.now) ++ (rows.now ++ rows_of_chunks (map arc_value after.now))) }
+    ensures each { IfOk result (λ chunks. Each IsChunk (map arc_value before.now) → Each IsChunk (map arc_value after.now) →
+        Each IsChunk (map arc_value chunks.items)) }
 {
     let mut chunks = Vec::with_capacity(alloc, before.len())?;
     push_shared(&mut chunks, before)?;

@@ -45,7 +45,8 @@ fn is_again(rows: &[Route], at: usize) -> bool
     requires { at < length rows.now }
     ensures yes { OnTrue result (0 < at) }
     ensures same { OnTrue result ((d : Route) → is_same_prefix (slice_index_or rows.now (at - 1) d).prefix (slice_index_or rows.now at d).prefix ≡ true) }
-    ensures other { OnFalse result (0 < at → (d : Route) → is_same_prefix (slice_index_or rows.now (at - 1) d).prefix (slice_index_or rows.now at d).prefix ≡ false) }
+    ensures other { OnFalse result
+        (0 < at → (d : Route) → is_same_prefix (slice_index_or rows.now (at - 1) d).prefix (slice_index_or rows.now at d).prefix ≡ false) }
 {
     at > 0 && rows[at - 1].prefix == rows[at].prefix
 }

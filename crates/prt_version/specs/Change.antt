@@ -1,5 +1,6 @@
 -- What a command does to a state, or why it is refused: ip-route(8), ip-rule(8).
-use Rattle.std.specs.Prelude.{◌≡◌, ℕ, ◌+◌, Bool, not, ◌==◌, nat_lt, if◌then◌else◌, List, [], ◌∷◌, length, filter, find, Option, Result, Ok, Err, ok_or, option_map, unwrap_or}
+use Rattle.std.specs.Prelude.{◌≡◌, ℕ, ◌+◌, Bool, not, ◌==◌, nat_lt, if◌then◌else◌, List, [], ◌∷◌, length, filter, find, Option, Result, Ok, Err}
+use Rattle.std.specs.Prelude.{ok_or, option_map, unwrap_or}
 use Rattle.std.specs.List.{list_any}
 use Rattle.std.specs.Result.{result_err}
 use Rattle.prt_addr.specs.Order.{insert_by}
@@ -26,7 +27,18 @@ use Rattle.prt_version.specs.declared.limits.TheConstants.{MOST_COMMANDS, MOST_R
 
 -- the rule with the next id, and the priority that is given or the automatic one
 abbrev pub rule_of : State → NewRule → Rule
-rule_of state new = record { id = state.count + 4; priority = unwrap_or new.priority (auto_priority state.rules); inverted = new.inverted; from = new.from; to = new.to; iif = new.iif; mark = new.mark; action = new.action; suppress = new.suppress }
+rule_of state new = record {
+  id = state.count + 4;
+  priority = unwrap_or new.priority (auto_priority state.rules);
+  inverted =
+      new.inverted;
+  from = new.from;
+  to = new.to;
+  iif = new.iif;
+  mark = new.mark;
+  action = new.action;
+  suppress = new.suppress;
+}
 
 -- one that is equal in all but the id
 abbrev pub has_rule : Rule → List Rule → Bool
@@ -44,10 +56,13 @@ if_room count most made = if nat_lt count most then Ok made else Err Full
 abbrev pub change_of : State → Command → Result Change Refusal
 change_of state (RouteAdd route) = if has_key (key_of route) state.routes then Err Exists else if_room (length state.routes) MOST_ROUTES (change.RouteAdd route)
 change_of state (RouteChange route) = if has_key (key_of route) state.routes then Ok (change.Route (Put route)) else Err NoSuch
-change_of state (RouteReplace route) = if has_key (key_of route) state.routes then Ok (change.Route (Put route)) else if_room (length state.routes) MOST_ROUTES (change.Route (Put route))
+change_of state (RouteReplace route) =
+    if has_key (key_of route) state.routes then Ok (change.Route (Put route))
+    else if_room (length state.routes) MOST_ROUTES (change.Route (Put route))
 change_of state (RouteDel choice) = ok_or (option_map (λ route. change.Route (Remove (key_of route))) (chosen_route choice state.routes)) NoSuch
 change_of state (RouteFlush selector) = Ok (change.Route (Flush selector))
-change_of state (RuleAdd new) = if has_rule (rule_of state new) state.rules then Err Exists else if_room (length state.rules) MOST_RULES (change.RulePut (rule_of state new))
+change_of state (RuleAdd new) =
+    if has_rule (rule_of state new) state.rules then Err Exists else if_room (length state.rules) MOST_RULES (change.RulePut (rule_of state new))
 change_of state (RuleDel choice) = ok_or (option_map (λ rule. change.RuleDrop rule.id) (named_rule choice state.rules)) NoSuch
 change_of state RuleFlush = Ok change.RuleFlush
 

@@ -8,7 +8,8 @@ use Rattle.prt_version.specs.State.{State, table_rule}
 
 -- a new rule for every packet
 abbrev pub rule_for_all : Option ℕ → Action → NewRule
-rule_for_all priority action = record { priority = priority; inverted = false; from = everything; to = everything; iif = None; mark = None; action = action; suppress = None }
+rule_for_all priority action =
+    record { priority = priority; inverted = false; from = everything; to = everything; iif = None; mark = None; action = action; suppress = None }
 
 -- this many rules, of the priorities from this one on, before these
 abbrev pub lookups : ℕ → ℕ → List Rule → List Rule

@@ -13,7 +13,9 @@ pub record IsStorableState (state : State) : Type 0 where
   pub rules : Each (λ rule. IsTrue (is_storable_rule rule.action rule.suppress)) state.rules
   pub routes : Each (λ route. IsTrue (is_storable_route route)) state.routes
 
--- After this many commands, these rows of rules and of routes, in whatever order they come, encode the state. Each of its rules and of its routes has one row, and there are no more rows. So rows of which two are equal, or have one key, encode none; and no rows encode two states (the law `spelled_once`).
+-- After this many commands, these rows of rules and of routes, in whatever order they come, encode the state. Each of its rules
+-- and of its routes has one row, and there are no more rows. So rows of which two are equal, or have one key, encode none; and no
+-- rows encode two states (the law `spelled_once`).
 pub record RowsSpell (number : ℕ) (rules : List Rule) (routes : List Route) (state : State) : Type 0 where
   pub count : state.count ≡ number
   pub rules_are : IsPermutation rules state.rules

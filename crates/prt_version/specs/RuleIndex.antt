@@ -1,5 +1,6 @@
 -- An index of rules: those that may match a packet are in the few lists that its source and its destination name.
-use Rattle.std.specs.Prelude.{◌≡◌, ℕ, ◌+◌, ◌*◌, ◌/◌, ◌%◌, ◌^◌, ◌<◌, ◌≤◌, ◌==◌, true, nat_lt, if◌then◌else◌, List, [], ◌∷◌, length, slice_index_or, Option, Some, None}
+use Rattle.std.specs.Prelude.{◌≡◌, ℕ, ◌+◌, ◌*◌, ◌/◌, ◌%◌, ◌^◌, ◌<◌, ◌≤◌, ◌==◌, true, nat_lt, if◌then◌else◌, List, [], ◌∷◌, length, slice_index_or}
+use Rattle.std.specs.Prelude.{Option, Some, None}
 use Rattle.std.specs.List.{Contains}
 use Rattle.prt_addr.specs.Block.{Block}
 use Rattle.prt_addr.specs.Word.{Word}
@@ -15,7 +16,8 @@ list_at level bits addr = addr / 2 ^ bits % 64 + 64 * level + 1
 
 -- the list of a prefix, at the first of three levels for which it is long enough; 0 if it is too short for each
 abbrev pub list_in : ℕ → Block → ℕ
-list_in level prefix = if nat_lt prefix.len 16 then 0 else if nat_lt prefix.len 24 then list_at (level + 2) 16 prefix.bits else if nat_lt prefix.len 32 then list_at (level + 1) 8 prefix.bits else list_at level 0 prefix.bits
+list_in level prefix = if nat_lt prefix.len 16 then 0 else if nat_lt prefix.len 24 then list_at (level + 2) 16 prefix.bits
+    else if nat_lt prefix.len 32 then list_at (level + 1) 8 prefix.bits else list_at level 0 prefix.bits
 
 -- the list of an interface, by a number computed from its name
 abbrev pub name_number : ℕ → Word → ℕ
@@ -37,11 +39,14 @@ list_beside None None = 0
 
 -- the list of a rule: of its source, or else of its destination, or else of what it names besides; inverted rules are in that of the rest
 abbrev pub list_of : Rule → ℕ
-list_of rule = if rule.inverted then 0 else if list_in 0 rule.from == 0 then (if list_in 3 rule.to == 0 then list_beside rule.iif rule.mark else list_in 3 rule.to) else list_in 0 rule.from
+list_of rule = if rule.inverted then 0
+    else if list_in 0 rule.from == 0 then (if list_in 3 rule.to == 0 then list_beside rule.iif rule.mark else list_in 3 rule.to)
+    else list_in 0 rule.from
 
 -- the lists of a packet: of its source, its destination, its interface and its mark, and of the rest
 abbrev pub lists_for : Packet → List ℕ
-lists_for packet = list_at 0 0 packet.src.0 ∷ list_at 1 8 packet.src.0 ∷ list_at 2 16 packet.src.0 ∷ list_at 3 0 packet.dst.0 ∷ list_at 4 8 packet.dst.0 ∷ list_at 5 16 packet.dst.0 ∷ list_named packet.iif ∷ list_marked packet.mark ∷ 0 ∷ []
+lists_for packet = list_at 0 0 packet.src.0 ∷ list_at 1 8 packet.src.0 ∷ list_at 2 16 packet.src.0 ∷ list_at 3 0 packet.dst.0
+    ∷ list_at 4 8 packet.dst.0 ∷ list_at 5 16 packet.dst.0 ∷ list_named packet.iif ∷ list_marked packet.mark ∷ 0 ∷ []
 
 -- the first place of a rule of the list, from this one on; the number of rules if there is none
 pub record IsNext (rules : List Rule) (list from place : ℕ) : Type 0 where
@@ -57,7 +62,8 @@ pub record AreLinked (rules : List Rule) (from : ℕ) (first next : List ℕ) : 
   pub begin : (list d : ℕ) → list < 513 → IsNext rules list from (slice_index_or first list d)
   pub follow : (k e : ℕ) (d : Rule) → from ≤ k → k < length rules → IsNext rules (list_of (slice_index_or rules k d)) (k + 1) (slice_index_or next k e)
   -- each rule is in a list of each packet that it matches
-  pub told : (k : ℕ) (d : Rule) (packet : Packet) → from ≤ k → k < length rules → matches (slice_index_or rules k d) packet ≡ true → Contains (lists_for packet) (list_of (slice_index_or rules k d))
+  pub told : (k : ℕ) (d : Rule) (packet : Packet) → from ≤ k → k < length rules → matches (slice_index_or rules k d) packet ≡ true →
+      Contains (lists_for packet) (list_of (slice_index_or rules k d))
 
 abbrev pub IsIndex : List Rule → RuleIndex → Type 0
 IsIndex rules index = AreLinked rules 0 index.first index.next.items

@@ -1,5 +1,6 @@
 -- What becomes of a packet: ip-rule(8), ip-route(8).
-use Rattle.std.specs.Prelude.{ℕ, Bool, true, false, not, ◌&&◌, nat_le, if◌then◌else◌, List, filter, Option, Some, None, is_some, option_map, option_and_then, unwrap_or}
+use Rattle.std.specs.Prelude.{ℕ, Bool, true, false, not, ◌&&◌, nat_le, if◌then◌else◌, List, filter, Option, Some, None, is_some, option_map}
+use Rattle.std.specs.Prelude.{option_and_then, unwrap_or}
 use Rattle.prt_addr.specs.Order.{first_by}
 use Rattle.prt_addr.specs.Word.{keep}
 use Rattle.prt_route.specs.Best.{best}
@@ -31,7 +32,8 @@ suppresses (Some len) route = is_same_kind Unicast route.kind && nat_le route.pr
 
 -- a lookup returns the route that it finds, if it finds one and does not suppress it, and any other action is itself the verdict
 abbrev pub verdict_by : Action → Option ℕ → ℕ → List Route → Packet → Option Verdict
-verdict_by (Lookup table) suppress priority routes packet = option_map (λ route. verdict.Route priority route) (keep (λ route. not (suppresses suppress route)) (table_lookup table routes packet))
+verdict_by (Lookup table) suppress priority routes packet =
+    option_map (λ route. verdict.Route priority route) (keep (λ route. not (suppresses suppress route)) (table_lookup table routes packet))
 verdict_by action suppress priority routes packet = Some (verdict.RuleSays priority action)
 
 -- what one rule says of a packet, if it decides

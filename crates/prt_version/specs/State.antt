@@ -14,7 +14,19 @@ pub record State : Type 0 where
 
 -- look up this table for every packet
 abbrev pub table_rule : ℕ → ℕ → ℕ → Rule
-table_rule id priority table = record { id = id; priority = priority; inverted = false; from = everything; to = everything; iif = None; mark = None; action = Lookup table; suppress = None }
+table_rule id priority table =
+    record {
+      id = id;
+      priority = priority;
+      inverted = false;
+      from = everything;
+      to = everything;
+      iif = None;
+      mark = None;
+      action =
+          Lookup table;
+      suppress = None;
+    }
 
 -- local, main and default
 abbrev pub opening_rules : List Rule

@@ -18,7 +18,8 @@ first_verdict (rule ∷ rules) routes packet = elim (decision rule routes packet
 
 -- none of the rules of this list, up to this place, decides
 abbrev pub IsSilent : List Rule → ℕ → ℕ → List Route → Packet → Type 0
-IsSilent rules list before routes packet = (k : ℕ) (d : Rule) → k < before → list_of (slice_index_or rules k d) ≡ list → decision (slice_index_or rules k d) routes packet ≡ None
+IsSilent rules list before routes packet = (k : ℕ) (d : Rule) → k < before → list_of (slice_index_or rules k d) ≡ list →
+    decision (slice_index_or rules k d) routes packet ≡ None
 
 -- the rule at the place is the first of the list that decides, and it says this
 pub record IsFirst (rules : List Rule) (list before : ℕ) (routes : List Route) (packet : Packet) (place : ℕ) (verdict : Verdict) : Type 0 where

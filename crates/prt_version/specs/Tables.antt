@@ -68,6 +68,7 @@ table_of route = record { number = route.table; rows = route ∷ [] }
 
 -- all tables after an edit: a route whose table isn't there gets a new one
 abbrev pub tables_with : RouteEdit → List TableRows → List TableRows
-tables_with (Put route) tables = if has_table route.table tables then tables_after (Put route) tables else insert_by is_lower (table_of route) (tables_after (Put route) tables)
+tables_with (Put route) tables =
+    if has_table route.table tables then tables_after (Put route) tables else insert_by is_lower (table_of route) (tables_after (Put route) tables)
 tables_with (Remove key) tables = tables_after (Remove key) tables
 tables_with (Flush selector) tables = tables_after (Flush selector) tables

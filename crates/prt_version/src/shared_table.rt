@@ -6,7 +6,8 @@ ghost use Rattle.prt_addr.specs.Rising.{IsRising};
 ghost use Rattle.prt_route.specs.Route.{is_listed_before};
 ghost use Rattle.prt_route.specs.RouteChoice.{is_selected};
 ghost use Rattle.prt_trie.specs.Table.{table_of as first_table};
-ghost use Rattle.prt_version.specs.Tables.{AreTables, HasOwnRows, TableRows, all_rows, has_rows, has_table, is_lower, named_table, names_table, rows_of_table, table_after, tables_after, table_of, tables_with};
+ghost use Rattle.prt_version.specs.Tables.{AreTables, HasOwnRows, TableRows, all_rows, has_rows, has_table, is_lower, named_table, names_table};
+ghost use Rattle.prt_version.specs.Tables.{rows_of_table, table_after, tables_after, table_of, tables_with};
 
 use crate::{MOST_ROUTES, Route};
 use prt_addr::agrees;

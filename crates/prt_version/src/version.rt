@@ -49,7 +49,8 @@ impl Model for Version {
 
     ghost view = { λ v. record { count = v.count; rules = arc_value v.rules; routes = arc_value v.routes } };
 
-    ghost invariant = { λ v. IsSound (record { count = v.count; rules = arc_value v.rules; routes = arc_value v.routes }) × AreTried (arc_value v.rules) (arc_value v.routes) v.tried };
+    ghost invariant = { λ v. IsSound (record { count = v.count; rules = arc_value v.rules; routes = arc_value v.routes })
+        × AreTried (arc_value v.rules) (arc_value v.routes) v.tried };
 }
 
 /// Makes a rule that looks up a table for every packet, as the three of a new database do (`ip-rule(8)`).

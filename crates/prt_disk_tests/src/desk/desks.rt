@@ -1,6 +1,6 @@
 //! Scripts over desks, whose databases are opened again.
 
-use prt_desk::StoreDesk;
+use prt_publisher::{Publisher, StoreDesk};
 use prt_session::{
     Desk, MemoryDesk, OnRefusal, Refusal, ScriptEnd, Unobserved, run_atomic, run_script,
 };
@@ -43,13 +43,23 @@ pub fn replies<D: Desk>(alloc: Global, desk: &mut D, script: &str) -> Vec<u8> {
     run(alloc, desk, script).0
 }
 
+/// Makes a desk over the database of a connection, or gives the connection back.
+pub fn desk_over<S: Alter + Drop, H: Wait + Copy + Drop>(
+    rt: H,
+    alloc: Global,
+    connection: Connection<S>,
+) -> Result<StoreDesk<S, H>, (Refusal, Connection<S>)> {
+    let (publisher, domain) = Publisher::adopt(alloc, connection)?;
+    Ok(StoreDesk::new(rt, publisher, domain))
+}
+
 /// Makes a desk over the database of a connection.
 pub fn opened<S: Alter + Drop, H: Wait + Copy + Drop>(
     rt: H,
     alloc: Global,
     connection: Connection<S>,
 ) -> Result<StoreDesk<S, H>, Refusal> {
-    match StoreDesk::open(rt, alloc, connection) {
+    match desk_over(rt, alloc, connection) {
         Ok(desk) => Ok(desk),
         Err((reason, _)) => Err(reason),
     }

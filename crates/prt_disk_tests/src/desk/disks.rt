@@ -1,7 +1,6 @@
 //! Runs over the two files of a database, which come back also if they can't be opened.
 
-use super::desks::{run, run_together};
-use prt_desk::StoreDesk;
+use super::desks::{desk_over, run, run_together};
 use prt_session::{Refusal, ScriptEnd};
 use prt_store::faults::FailOnce;
 use sqlite::{Connection, Error, FileStore, Files, Options};
@@ -86,7 +85,7 @@ fn run_over<D: Disk + Drop, H: Wait + Copy + Drop>(
     script: &str,
     mode: Mode,
 ) -> (Result<Ran, Refusal>, Files<D>) {
-    match StoreDesk::open(rt, alloc, connection) {
+    match desk_over(rt, alloc, connection) {
         Ok(mut desk) => {
             let (replies, end) = match mode {
                 Mode::InTurn => run(alloc, &mut desk, script),

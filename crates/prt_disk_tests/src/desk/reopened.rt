@@ -4,7 +4,7 @@ ghost use Rattle.std.specs.Prelude.{IsTrue};
 
 use super::desks::{opened, replies};
 use super::disks::{Faults, OPTIONS, new_files};
-use prt_desk::StoreDesk;
+use prt_publisher::StoreDesk;
 use prt_session::{OnRefusal, Refusal, Unobserved, run_script};
 use sqlite::{Connection, FileStore, Files};
 use sqlite_disk::Disk;

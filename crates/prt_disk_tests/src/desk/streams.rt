@@ -1,7 +1,7 @@
 //! Faults of the streams: each of these readers and writers fails once and would then go on.
 
 use prt_session::{
-    MemoryDesk, Observer, OnRefusal, Refusal, Reply, ScriptEnd, Unobserved, run_session,
+    MemoryDesk, Observer, OnRefusal, Refusal, Reply, ScriptEnd, Unobserved, run_script,
 };
 use std::alloc::Global;
 use std::io;
@@ -88,8 +88,8 @@ fn run_interrupted(alloc: Global, before: &'static [u8]) -> Result<Left, Refusal
         refused: 0,
         text_len: 9,
     };
-    let end = run_session(
-        &alloc,
+    let end = run_script(
+        alloc,
         &mut desk,
         &mut reader,
         &mut replies,

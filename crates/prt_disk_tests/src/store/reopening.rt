@@ -50,7 +50,8 @@ pub fn reopened<D: Disk + Drop>(
     store: Store<FileStore<D>>,
     options: Options,
 ) -> Result<Store<FileStore<D>>, Refusal>
-    ensures { IfOk result (λ again. HasCleanDisk (file_state again.conn) → (stored : State) → Stores (file_state store.conn).committed stored → Stores (file_state again.conn).now stored) }
+    ensures { IfOk result (λ again. HasCleanDisk (file_state again.conn) → (stored : State) →
+        Stores (file_state store.conn).committed stored → Stores (file_state again.conn).now stored) }
 {
     let conn = opened_again(alloc, store.release(), options)?;
     match Store::adopt(conn) {

@@ -1,5 +1,5 @@
 use crate::version::{commands_of, version_after};
-use prt_apply::{is_storable, plan};
+use prt_diff::apply::{is_storable, plan};
 use std::test::Fail;
 
 const FOUND: &str = "route add default via 192.0.2.1

@@ -1,4 +1,4 @@
-use prt_claims::{Claim, find_breach, push_breach, read_claim};
+use prt_analyses::claims::{Claim, find_breach, push_breach, read_claim};
 use prt_command::{Command, Packet, Refusal, Request, read_line};
 use prt_version::Version;
 use std::alloc::Global;

@@ -1,5 +1,5 @@
 use prt_addr::{Addr, read_prefix};
-use prt_claims::{BadClaim, ClaimFault, Expected, bad_word, read_claim};
+use prt_analyses::claims::{BadClaim, ClaimFault, Expected, bad_word, read_claim};
 use prt_command::{Mark, Refusal};
 use prt_route::{Kind, read_dev};
 use std::test::Fail;

@@ -1,5 +1,5 @@
 //! What `ip -j` of iproute2 6.1 printed in a network namespace, and what `ip` printed there without `-j`.
-use prt_ip_json::{ListingError, is_json, listing_of};
+use prt_import::ip_json::{ListingError, is_json, listing_of};
 use std::test::Fail;
 
 /// What `ip -j -4 rule` printed.

@@ -1,6 +1,6 @@
 use super::tables::version_after;
+use prt_analyses::unused::{RuleReason, unused, unused_text};
 use prt_command::Refusal;
-use prt_unused::{RuleReason, unused, unused_text};
 use prt_version::Version;
 use std::alloc::Global;
 use std::test::Fail;

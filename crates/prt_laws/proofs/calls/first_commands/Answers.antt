@@ -3,7 +3,7 @@ use Rattle.sqlite.specs.Held.{Held}
 use Rattle.prt_publisher.specs.Standing.{Standing}
 use Rattle.prt_grace.specs.Registry.{RegistryState}
 use Rattle.prt_publisher.specs.declared.phase.Phase.TheVariants.{Closed, Ready}
-use Rattle.prt_world.specs.World.{start}
+use Rattle.prt_replay.specs.World.{start}
 use Rattle.prt_laws.specs.Runs.{Acknowledges, step_acts}
 use Rattle.prt_laws.proofs.Runs.{leaves_all}
 use Rattle.prt_laws.proofs.calls.first_commands.Goals as goal

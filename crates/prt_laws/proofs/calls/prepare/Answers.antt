@@ -1,5 +1,5 @@
 use Rattle.std.proofs.Common.{arith}
-use Rattle.prt_world.specs.declared.event.Event.TheVariants as events
+use Rattle.prt_replay.specs.declared.event.Event.TheVariants as events
 use Rattle.prt_laws.proofs.Submitted.{prepares, prepares_not}
 use Rattle.prt_laws.proofs.calls.prepare.Goals as goal
 

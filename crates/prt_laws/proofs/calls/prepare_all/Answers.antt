@@ -1,4 +1,4 @@
-use Rattle.prt_world.specs.declared.event.Event.TheVariants as events
+use Rattle.prt_replay.specs.declared.event.Event.TheVariants as events
 use Rattle.prt_laws.proofs.Submitted.{prepares, prepares_not}
 use Rattle.prt_laws.proofs.calls.prepare_all.Goals as goal
 

@@ -1,9 +1,9 @@
 use Rattle.std.proofs.Common.{◌≡◌, ◌≤◌, List, false, true, inl, inr, length, refl, ap, sym, ◌∙◌, subst, arith}
 use Rattle.prt_refusals.specs.declared.refusal.Refusal.{Refusal}
 use Rattle.prt_command.specs.declared.request.Command.{Command}
-use Rattle.prt_world.specs.World.{step}
-use Rattle.prt_world.specs.declared.event.Event.{Event}
-use Rattle.prt_world.specs.declared.event.Event.TheVariants.{Reclaim}
+use Rattle.prt_replay.specs.World.{step}
+use Rattle.prt_replay.specs.declared.event.Event.{Event}
+use Rattle.prt_replay.specs.declared.event.Event.TheVariants.{Reclaim}
 use Rattle.prt_laws.specs.Events.{AsksSome, asked, commit_events, own}
 use Rattle.prt_laws.specs.Laws.{PublishesNot}
 use Rattle.prt_laws.proofs.Submitted.{commit_through, declines_checked}

@@ -6,8 +6,8 @@ use Rattle.prt_questions.proofs.applying.apply_to_database.Goals as goal
 pub returns-clause-whole : goal.returns-clause-whole
 returns-clause-whole g c = λ done.
     let opened = c.in-Ok.ensures.opened in
-    let made = c.make-status.ensures in
-    let left : Leaves g.H.Store.Store c.in-Ok.made.0 c.end-last.result = record { done = c.make-status.new.publisher; its = sym c.end-last.ensures.tables; quiet = made.quiet; file = made.file; stands = c.end-last.ensures.stands } in
+    let made = c.apply_to_publisher-status.ensures in
+    let left : Leaves g.H.Store.Store c.in-Ok.made.0 c.end-last.result = record { done = c.apply_to_publisher-status.new.publisher; its = sym c.end-last.ensures.tables; quiet = made.quiet; file = made.file; stands = c.end-last.ensures.stands } in
     record {
       between = c.open_publisher-opened.new.machine;
       first = opened.was;
@@ -20,8 +20,8 @@ returns-clause-whole g c = λ done.
 pub returns-clause-at_most : goal.returns-clause-at_most
 returns-clause-at_most g c =
     let opened = c.in-Ok.ensures.opened in
-    let made = c.make-status.ensures in
-    let left : Leaves g.H.Store.Store c.in-Ok.made.0 c.end-last.result = record { done = c.make-status.new.publisher; its = sym c.end-last.ensures.tables; quiet = made.quiet; file = made.file; stands = c.end-last.ensures.stands } in
+    let made = c.apply_to_publisher-status.ensures in
+    let left : Leaves g.H.Store.Store c.in-Ok.made.0 c.end-last.result = record { done = c.apply_to_publisher-status.new.publisher; its = sym c.end-last.ensures.tables; quiet = made.quiet; file = made.file; stands = c.end-last.ensures.stands } in
     inr (record {
       between = c.open_publisher-opened.new.machine;
       first = opened.was;

@@ -19,9 +19,9 @@ returns-in-Script-clause-at_most g c =
     rw c.in-Script.is (of_script c.args.databases.now.machine (IsRead (IsFileOf g.H.Files.ReadFiles.opens g.H.Files.Opened.Read.remaining c.args.databases.now.files.now) (g.H.Input.Read.remaining c.args.input.now) (path_of c.in-Script.file)) (contents c.args.output.now) (contents c.ask_script.new.output) (said c.args.inquiry.now) c.ask_script.ensures.part)
 
 pub returns-in-Server-clause-whole : goal.returns-in-Server-clause-whole
-returns-in-Server-clause-whole g c = rw c.in-Server.is (λ done. let answered = c.ask_server.ensures.whole done in (refl, answered.0, answered.1, (answered.2, answered.3)))
+returns-in-Server-clause-whole g c = rw c.in-Server.is (λ done. let answered = c.ask_by_tables.ensures.whole done in (refl, answered.0, answered.1, (answered.2, answered.3)))
 
 pub returns-in-Server-clause-at_most : goal.returns-in-Server-clause-at_most
 returns-in-Server-clause-at_most g c =
     let contents = g.W.Write.contents in
-    rw c.in-Server.is (of_server c.args.databases.now.machine (AreTold g.H.Net.LocalNet.reaches g.H.Net.Stream.Read.remaining c.args.databases.now.rt c.in-Server.place) (contents c.args.output.now) (contents c.ask_server.new.output) (said c.args.inquiry.now) c.ask_server.ensures.part)
+    rw c.in-Server.is (of_server c.args.databases.now.machine (AreTold g.H.Net.LocalNet.reaches g.H.Net.Stream.Read.remaining c.args.databases.now.rt c.in-Server.place) (contents c.args.output.now) (contents c.ask_by_tables.new.output) (said c.args.inquiry.now) c.ask_by_tables.ensures.part)

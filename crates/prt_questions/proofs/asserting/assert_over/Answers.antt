@@ -1,5 +1,5 @@
 use Rattle.std.proofs.Common.{inr, subst}
-use Rattle.prt_claims.specs.Checking.{IsChecked}
+use Rattle.prt_analyses.specs.Claims.Checking.{IsChecked}
 use Rattle.prt_questions.specs.Analyses.{IsAsserted, IsAssertedAtMost}
 use Rattle.prt_questions.specs.Sources.{IsFileOf, IsRead, path_of}
 use Rattle.prt_questions.proofs.asserting.assert_over.Goals as goal

@@ -1,4 +1,4 @@
-use Rattle.prt_serve.specs.Opening.{HasLetGo}
+use Rattle.prt_serve.specs.Announcement.{HasLetGo}
 use Rattle.prt_serve.proofs.atomic.let_go.Given as goal
 
 abbrev pub invariant-loop : goal.invariant-loop

@@ -3,7 +3,7 @@ use Rattle.prt_published.specs.Line.{Line}
 use Rattle.prt_refusals.specs.declared.refusal.Refusal.{Refusal}
 use Rattle.prt_serve.proofs.Files.{together_grows}
 use Rattle.prt_serve.proofs.Resuming.{all_gone}
-use Rattle.prt_serve.specs.Opening.{HasLetGo}
+use Rattle.prt_serve.specs.Announcement.{HasLetGo}
 use Rattle.prt_serve.specs.Resumed.{resumed_remaining, unread_head}
 use Rattle.prt_serve.specs.Together.{FileIs, ServesTogether, ToldIs}
 use Rattle.prt_service.specs.Look.{Look}

@@ -1,6 +1,6 @@
 use Rattle.std.proofs.Common.{◌≡◌, ℕ, List, None, length, subst, true}
 use Rattle.prt_command.specs.declared.request.Command.{Command}
-use Rattle.prt_serve.specs.Opening.{is_as_many}
+use Rattle.prt_serve.specs.Announcement.{is_as_many}
 use Rattle.prt_serve.specs.Resumed.{resumed_remaining}
 use Rattle.prt_serve.specs.Together.{Comes, ToldIs}
 use Rattle.prt_session.specs.Desk.{IsNoMemory}

@@ -1,4 +1,4 @@
-use Rattle.prt_desk.proofs.Kept.{found_is_stored}
+use Rattle.prt_publisher.proofs.Kept.{found_is_stored}
 use Rattle.prt_machine.proofs.databases.DatabaseFilesDatabases.close.Goals as goal
 
 pub returns-in-Ok-clause-left : goal.returns-in-Ok-clause-left

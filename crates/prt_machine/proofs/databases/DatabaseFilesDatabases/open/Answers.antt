@@ -1,4 +1,4 @@
-use Rattle.prt_desk.specs.StoreDesk.{StandsFor, published}
+use Rattle.prt_publisher.specs.StoreDesk.{StandsFor, published}
 use Rattle.prt_session.specs.Open.{IsOpenOn}
 use Rattle.prt_version.specs.Sound.{IsSound}
 use Rattle.prt_machine.proofs.Opened.{of_some}

@@ -1,8 +1,0 @@
-use Rattle.prt_apply.proofs.Brings.{plan_accepted, plan_leaves}
-use Rattle.prt_apply.proofs.laws.plan_brings.Goals as goal
-
-pub returns : goal.returns
-returns c = record {
-  accepted = plan_accepted;
-  brought = plan_leaves;
-}

@@ -1,3 +1,0 @@
-mod Checks
-pub mod Breaches
-pub mod Spans

@@ -1,0 +1,14 @@
+pub mod Accepted
+pub mod SameRoutes
+pub mod RouteSteps
+pub mod RouteEnds
+pub mod Runs
+pub mod RuleSteps
+pub mod Stages
+pub mod Stored
+pub mod Alike
+pub mod Brings
+pub mod Room
+pub mod RouteWalks
+pub mod RuleWalks
+pub mod Between

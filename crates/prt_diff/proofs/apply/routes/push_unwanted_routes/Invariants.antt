@@ -1,0 +1,12 @@
+use Rattle.std.proofs.Common.{◌≡◌, ◌++◌, map, drop}
+use Rattle.prt_addr.specs.Rising.{IsRising}
+use Rattle.prt_route.specs.Route.{is_listed_before}
+use Rattle.prt_diff.specs.Routes.{delete_route}
+use Rattle.prt_diff.specs.Apply.Routes.{unwanted_routes}
+use Rattle.prt_diff.proofs.apply.routes.push_unwanted_routes.Given as goal
+
+abbrev pub invariant-loop-route : goal.invariant-loop-route
+invariant-loop-route l = record {
+  rises : IsRising is_listed_before l.rest;
+  held : l.commands.items ++ map delete_route (unwanted_routes (drop l.route-index l.found) l.rest) ≡ l.fn.commands.items ++ map delete_route (unwanted_routes l.found l.wanted);
+}

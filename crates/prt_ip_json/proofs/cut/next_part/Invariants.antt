@@ -1,7 +1,0 @@
-use Rattle.std.proofs.Common.{◌≡◌, ◌≤◌, drop, take}
-use Rattle.prt_ip_json.specs.Documents.{parts, parts_from}
-use Rattle.prt_ip_json.proofs.Cuts.{before}
-use Rattle.prt_ip_json.proofs.cut.next_part.Given as goal
-
-abbrev pub invariant-loop-at : goal.invariant-loop-at
-invariant-loop-at l = record { depth : l.depth ≤ l.at; parts : parts l.fn.text ≡ before (take l.at l.text) (parts_from l.depth l.mode (drop l.at l.text)) }

@@ -1,6 +1,0 @@
-use Rattle.std.proofs.Common.{◌≡◌, drop}
-use Rattle.prt_ip_json.specs.Documents.{is_json}
-use Rattle.prt_ip_json.proofs.listing.is_json.Given as goal
-
-abbrev pub invariant-loop-byte : goal.invariant-loop-byte
-invariant-loop-byte l = is_json l.fn.text ≡ is_json (drop l.byte-index l.text)

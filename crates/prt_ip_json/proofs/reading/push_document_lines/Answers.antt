@@ -1,9 +1,0 @@
-use Rattle.std.proofs.Common.{◌≡◌, [], arith}
-use Rattle.json.specs.Lex.{tokens}
-use Rattle.prt_ip_json.proofs.Values.{no_tokens}
-use Rattle.prt_ip_json.proofs.reading.push_document_lines.Goals as goal
-
-pub returns-in_default-clause-no_json : goal.returns-in_default-clause-no_json
-returns-in_default-clause-no_json c why =
-    let empty : tokens c.args.text.now ≡ [] = grind arith in
-    no_tokens c.args.text.now empty

@@ -1,4 +1,0 @@
-pub mod Words
-pub mod Listing
-pub mod Documents
-pub mod Steps

@@ -1,7 +1,0 @@
-use Rattle.std.proofs.Common.{take}
-use Rattle.std.specs.List.{AllByRecursion as Each}
-use Rattle.prt_unused.proofs.WhyUnused.{Misses}
-use Rattle.prt_unused.proofs.reasons.packet_under.Given as goal
-
-abbrev pub invariant-loop-rule : goal.invariant-loop-rule
-invariant-loop-rule l = Each (Misses l.route) (take l.rule-index l.rules)

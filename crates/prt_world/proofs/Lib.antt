@@ -1,8 +1,0 @@
-pub mod KeptVersions
-pub mod Folds
-pub mod History
-pub mod Phases
-pub mod Claims
-pub mod Told
-pub mod Growth
-pub mod SideBySide
