@@ -42,12 +42,12 @@ impl<H: Wait + Clock + Copy + Drop> Clock for Hasty<H> {
 
 /// What calls a service.
 #[derive(Drop)]
-struct Caller<'s, S: Alter + Drop, J: ServiceBrand, H> {
-    rt: &'s H,
+struct Caller<'r, 's, S: Alter + Drop, J: ServiceBrand, H> {
+    rt: &'r H,
     service: &'s Service<S, J>,
 }
 
-impl<'s, S: Alter + Drop, J: ServiceBrand, H: Wait + Clock> Caller<'s, S, J, H> {
+impl<'r, 's, S: Alter + Drop, J: ServiceBrand, H: Wait + Clock> Caller<'r, 's, S, J, H> {
     /// Submits the command after so many: a route is added and removed in turn. Returns the number of its receipt.
     fn submit_next(&self, accepted: u64) -> Result<u64, Refusal> {
         let line = if accepted % 2 == 0 {
