@@ -5,10 +5,14 @@ import re
 import socket
 import sqlite3
 import subprocess
+import sys
 import tempfile
 import threading
 from typing import NamedTuple
 
+sys.path.insert(0, os.path.join(os.path.dirname(os.path.realpath(__file__)), ".."))
+
+from others import PARTS, seen_in
 from disk import Disk, read_record
 from scripts import DATABASE, LISTINGS, PATIENCE, PROGRAM, TOP, Wrong, a_command, a_replacement, run, states_of
 
@@ -30,7 +34,8 @@ class Recording(NamedTuple):
 
     It began with these files, in which so many commands were accepted, and accepted the lines after those. The states
     are those before the first line and after each. Which of them a cut may leave, `allowed` gives by the numbers that
-    were told before.
+    were told before. What others see in the files that it began with, they have to see in each image; nothing is theirs
+    in most.
     """
     files: dict
     first: int
@@ -38,6 +43,7 @@ class Recording(NamedTuple):
     states: list
     entries: list
     allowed: object
+    others: list = []
 
 
 def library(name, folder):
@@ -206,7 +212,20 @@ def later(preloaded, dice):
     return batch(preloaded, dice, LATER, files=files, before=first.lines[:held])
 
 
-def former_file(is_logged):
+def former_statements():
+    """The statements of each table of a file of format 1."""
+    with open(f"{TOP}/{FORMER_SQL}", encoding="ascii") as file:
+        statements = [line for line in file.read().splitlines() if not line.startswith("--")]
+    return [[line for line in statements if f" {name} " in f" {line.split('(')[0]} "] for name in ("rule", "route", "meta")]
+
+
+def beside(parts, has_others):
+    """The statements of a file with tables of others before, between and after ours, if it has any."""
+    rule, route, meta = parts
+    return [PARTS[0], rule, PARTS[1], route, meta, PARTS[2]] if has_others else parts
+
+
+def former_file(is_logged, has_others):
     """A file of format 1, as SQLite writes it, with the commands that make the same: with a log, or with a journal."""
     nets = [(number // 200, number % 200) for number in range(FORMER)]
     lines = ["route add default dev wg0 table 51820", "rule add not fwmark 51820 table 51820"]
@@ -217,8 +236,7 @@ def former_file(is_logged):
         database = sqlite3.connect(f"{folder}/{DATABASE}")
         if is_logged:
             database.execute("PRAGMA journal_mode = WAL")
-        with open(f"{TOP}/{FORMER_SQL}", encoding="ascii") as statements:
-            database.executescript(statements.read())
+        database.executescript("\n".join(f"{line.rstrip(';')};" for part in beside(former_statements(), has_others) for line in part))
         database.executemany(f"INSERT INTO route VALUES ({', '.join('?' * 10)})", rows)
         database.execute("UPDATE meta SET count = ?", (len(lines),))
         database.commit()
@@ -226,12 +244,32 @@ def former_file(is_logged):
         return files_in(folder), lines
 
 
-def migration(preloaded, is_logged):
+def others_in(files):
+    """What others see in files of theirs and ours."""
+    with tempfile.TemporaryDirectory(dir=ROOM) as made:
+        return seen_in(write_files(f"{made}/disk", files))
+
+
+def migration(preloaded, is_logged, has_others=False):
     """A recorded opening of a file of format 1: a cut leaves the same state."""
-    files, lines = former_file(is_logged)
+    files, lines = former_file(is_logged, has_others)
     _, states = states_of(lines)
     gave, entries = recorded(preloaded, files,
                              lambda path, variables: run(["batch", "--db", path], LISTINGS, variables))
     if gave.stdout != states[-1]:
         raise Wrong(f"a file of format 1 lists\n{gave.stdout}{gave.stderr}")
-    return Recording(files, len(lines), lines, states, entries, lambda told: [len(lines)])
+    return Recording(files, len(lines), lines, states, entries, lambda told: [len(lines)],
+                     others_in(files) if has_others else [])
+
+
+def batch_beside_others(preloaded, dice):
+    """A recorded run over a file with tables of others, which an earlier run has migrated."""
+    files, lines = former_file(True, True)
+    with tempfile.TemporaryDirectory(dir=ROOM) as made:
+        folder = f"{made}/disk"
+        ended = run(["batch", "--db", write_files(folder, files)], LISTINGS)
+        if ended.returncode:
+            raise Wrong(f"a file with tables of others isn't opened: {ended.stderr}")
+        migrated = files_in(folder)
+    made = batch(preloaded, dice, LATER, files=migrated, before=lines)
+    return made._replace(others=others_in(files))
