@@ -6,12 +6,12 @@ use sqlite::{Connection, Error, File, FileStore};
 use std::fs::{self, OpenOptions};
 use std::io;
 
-/// What a machine calls for its database files. An open one is a connection `C`. Of a call no more is known than that it was
-/// made.
+/// What a machine calls for its database files. An open one is a connection `C`. Contracts say of a call only
+/// that it was made.
 pub(crate) trait Calls<C> {
     ghost use Rattle.std.specs.Prelude.{List, Option, ℕ};
 
-    /// That the system may say of the file at a path that it has so many bytes, or that it is missing or can't be examined.
+    /// That the system may say how many bytes the file at a path has, or that it is missing or can't be examined.
     ghost has_size: { Self → List ℕ → Option ℕ → Type 0 };
 
     /// What an opening of the file at a path makes of the machine, if it returns this connection.

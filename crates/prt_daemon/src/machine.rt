@@ -11,14 +11,14 @@ use std::io;
 
 /// The files of this machine, by its calls.
 #[derive(Drop)]
-pub(crate) struct ThisMachine<K> {
-    pub(crate) calls: K,
+pub(crate) struct ThisMachine<M> {
+    pub(crate) calls: M,
 }
 
 /// Checks that the system says of the file at a path that it has a byte at least: an opening would make the file, or write to
 /// an empty one.
-fn check_there<C, K: Calls<C>>(calls: &K, path: &str) -> Result<(), Error>
-    ensures { OnOk result (IsThere K.has_size calls.now path.now) }
+fn check_there<C, M: Calls<C>>(calls: &M, path: &str) -> Result<(), Error>
+    ensures { OnOk result (IsThere M.has_size calls.now path.now) }
 {
     match calls.size_of(path) {
         None => Err(Error::SqliteFailure(ErrorCode::CannotOpen)),
@@ -28,13 +28,13 @@ fn check_there<C, K: Calls<C>>(calls: &K, path: &str) -> Result<(), Error>
 }
 
 /// Opens the database file at a path, if it is there and has a table of ours. No other file is changed.
-fn open_ours<S: Alter, K: Calls<Connection<S>>>(
-    calls: &mut K,
+fn open_ours<S: Alter, M: Calls<Connection<S>>>(
+    calls: &mut M,
     path: &str,
 ) -> Result<Connection<S>, Error>
-    ensures opened { IfOk result (Opens K.has_size K.opens calls.old calls.new path.now Ours) }
-    ensures there { OnOk result (IsThere K.has_size calls.old path.now) }
-    ensures unopened { OnErr result (Refuses K.has_size K.opens K.fails K.closes calls.old calls.new path.now Ours) }
+    ensures opened { IfOk result (Opens M.has_size M.opens calls.old calls.new path.now Ours) }
+    ensures there { OnOk result (IsThere M.has_size calls.old path.now) }
+    ensures unopened { OnErr result (Refuses M.has_size M.opens M.fails M.closes calls.old calls.new path.now Ours) }
 {
     if let Err(error) = check_there(&*calls, path) {
         return Err(error);
@@ -52,16 +52,16 @@ fn open_ours<S: Alter, K: Calls<Connection<S>>>(
     }
 }
 
-impl<S: Alter, K: Calls<Connection<S>>> DatabaseOpener<Connection<S>> for ThisMachine<K> {
+impl<S: Alter, M: Calls<Connection<S>>> DatabaseOpener<Connection<S>> for ThisMachine<M> {
     ghost use Rattle.prt_daemon.specs.Openings.{IsThere, Opens, Refuses};
 
-    ghost opens = { λ wanted old new path conn. Opens K.has_size K.opens old.calls new.calls path wanted conn };
+    ghost opens = { λ wanted old new path conn. Opens M.has_size M.opens old.calls new.calls path wanted conn };
 
-    ghost refuses = { λ wanted old new path. Refuses K.has_size K.opens K.fails K.closes old.calls new.calls path wanted };
+    ghost refuses = { λ wanted old new path. Refuses M.has_size M.opens M.fails M.closes old.calls new.calls path wanted };
 
-    ghost closes = { λ old new conn. K.closes old.calls new.calls conn };
+    ghost closes = { λ old new conn. M.closes old.calls new.calls conn };
 
-    ghost is_there = { λ old path. IsThere K.has_size old.calls path };
+    ghost is_there = { λ old path. IsThere M.has_size old.calls path };
 
     fn open(&mut self, path: &str, wanted: Wanted) -> Result<Connection<S>, Error> {
         match wanted {

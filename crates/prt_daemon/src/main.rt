@@ -73,7 +73,7 @@ fn main(rt: HostRuntime) -> ExitCode {
         }
     };
     let mut databases: DatabaseFiles<'_, ThisHost<HostRuntime>> = DatabaseFiles {
-        machine: ThisMachine {
+        opener: ThisMachine {
             calls: HostCalls { host: rt },
         },
         files: &rt,

@@ -27,7 +27,7 @@ pub fn run<H: Host>(
     output: &mut H::Output,
     mut errors: H::Errors,
 ) -> u8
-    ensures { RunsPrt H.Store.Store H.Opener.DatabaseOpener databases.old.machine databases.new.machine
+    ensures { RunsPrt H.Store.Store H.Opener.DatabaseOpener databases.old.opener databases.new.opener
         (H.Files.opens databases.old.files.now) H.Files.Opened.remaining
         (sources_of H.Files.opens H.Files.Opened.remaining databases.old.files.now H.Net.reaches H.Net.Stream.remaining databases.old.rt
         (H.Input.remaining input.old)) (invocation (arguments words.now))

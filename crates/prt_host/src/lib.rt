@@ -3,10 +3,11 @@
 
 mod context;
 mod counts;
-mod doors;
 mod entry;
 mod laws;
+mod listening;
 mod log;
+mod reporting_gate;
 mod server;
 mod serving;
 mod status;

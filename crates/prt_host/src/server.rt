@@ -7,7 +7,7 @@ ghost use Rattle.prt_publisher.specs.Standing.{IsQuiet};
 ghost use Rattle.prt_serve.specs.Kept.{Work};
 
 use crate::context::ServerContext;
-use crate::doors::{Doors, PlaceError, listen};
+use crate::listening::{Listening, PlaceError, listen};
 use crate::serving::{faults_of, run_service};
 use crate::telling::tell_shared;
 use prt_args::{DONE, FAULT, Fault, ServeArgs, report};
@@ -93,13 +93,13 @@ impl ServeError {
     }
 }
 
-/// Takes the publisher's readers, and serves what comes at these doors by a service over it. Returns why not all that was
+/// Takes the publisher's readers, and serves what comes there by a service over it. Returns why not all that was
 /// asked for was served, and the connection.
 fn take_seats_and_serve<H: Host>(
     context: &ServerContext<'_, '_, '_, H>,
     mut publisher: Publisher<H::Store>,
     domain: Domain,
-    doors: &Doors<H::Net>,
+    listening: &Listening<H::Net>,
 ) -> (Option<ServeError>, Connection<H::Store>)
     requires { IsQuiet publisher.phase }
     ensures fault { IfSome result.0 (λ failure. IsFaultOfServing failure.fault) }
@@ -120,7 +120,7 @@ fn take_seats_and_serve<H: Host>(
             return (Some(failure), publisher.end(rt));
         }
     };
-    let (end, conn) = run_service::<H, Brand>(context, publisher, seats, domain, doors);
+    let (end, conn) = run_service::<H, Brand>(context, publisher, seats, domain, listening);
     (ServeError::of_end(end), conn)
 }
 
@@ -138,15 +138,15 @@ fn listen_and_serve<H: Host>(
         × (result.0 ≡ None → length shifts ≡ context.now.asked.now.workers) }
 {
     let (rt, alloc) = (context.rt, context.alloc);
-    let doors = match listen(rt, alloc, context.asked, output) {
-        Ok(doors) => doors,
+    let listening = match listen(rt, alloc, context.asked, output) {
+        Ok(listening) => listening,
         Err(PlaceError { place, error }) => {
             let failure = ServeError::new(alloc, Fault::Listener, &place, Some(&error));
             return (Some(failure), publisher.end(rt));
         }
     };
-    let served = take_seats_and_serve(context, publisher, domain, &doors);
-    doors.remove_files(rt);
+    let served = take_seats_and_serve(context, publisher, domain, &listening);
+    listening.remove_files(rt);
     served
 }
 
@@ -163,12 +163,12 @@ fn open_and_serve<'x, H: Host>(
     errors: &'x Mutex<H::Errors>,
 ) -> Result<(), ServeError>
     ensures ok { OnOk result
-        (IsServedBy H.Store.Store H.Opener.DatabaseOpener asked.now.workers databases.old.machine databases.new.machine asked.now.database.now) }
+        (IsServedBy H.Store.Store H.Opener.DatabaseOpener asked.now.workers databases.old.opener databases.new.opener asked.now.database.now) }
     ensures err { IfErr result (λ failure.
-        IsNotServed H.Store.Store H.Opener.DatabaseOpener databases.old.machine databases.new.machine asked.now.database.now failure.fault) }
+        IsNotServed H.Store.Store H.Opener.DatabaseOpener databases.old.opener databases.new.opener asked.now.database.now failure.fault) }
 {
     let rt = databases.rt;
-    let opened = open_publisher(&mut databases.machine, alloc, asked.database, Wanted::Any);
+    let opened = open_publisher(&mut databases.opener, alloc, asked.database, Wanted::Any);
     let (publisher, domain) = match opened {
         Ok(made) => made,
         Err(refused) => return Err(ServeError::of_opening(alloc, asked.database, refused)),
@@ -181,7 +181,7 @@ fn open_and_serve<'x, H: Host>(
         errors: &*errors,
     };
     let (failure, conn) = listen_and_serve(&context, publisher, domain, output);
-    if let Err(reason) = databases.machine.close(conn) {
+    if let Err(reason) = databases.opener.close(conn) {
         tell_shared(&rt, log_message(alloc, asked.database, &reason), errors);
     }
     match failure {
@@ -205,10 +205,10 @@ pub(crate) fn serve<H: Host>(
     errors: H::Errors,
 ) -> u8
     ensures done { result ≡ DONE →
-        IsServedBy H.Store.Store H.Opener.DatabaseOpener asked.now.workers databases.old.machine databases.new.machine asked.now.database.now }
+        IsServedBy H.Store.Store H.Opener.DatabaseOpener asked.now.workers databases.old.opener databases.new.opener asked.now.database.now }
     ensures fault { result ≢ DONE → result ≡ FAULT }
     ensures why { result ≢ DONE → (fault : Fault)
-        × IsNotServed H.Store.Store H.Opener.DatabaseOpener databases.old.machine databases.new.machine asked.now.database.now fault }
+        × IsNotServed H.Store.Store H.Opener.DatabaseOpener databases.old.opener databases.new.opener asked.now.database.now fault }
 {
     let errors = Mutex::new(errors);
     let served = open_and_serve(databases, alloc, asked, output, &errors);

@@ -7,15 +7,15 @@ ghost use Rattle.prt_service.specs.Named.{IsNamed};
 
 use crate::context::ServerContext;
 use crate::counts::Counts;
-use crate::doors::Doors;
-use crate::telling::ReportingGate;
+use crate::listening::Listening;
+use crate::reporting_gate::ReportingGate;
 use prt_args::{Fault, ServeArgs};
 use prt_grace::Domain;
 use prt_machine::Host;
 use prt_program::Refusal;
 use prt_published::Known;
 use prt_publisher::{Publisher, Seats};
-use prt_serve::{Accepting, Limits, ServeEnd, ServiceContext, Shift, Worked, serve_entrances};
+use prt_serve::{Accepting, Limits, ServeEnd, ServiceContext, Shift, Worked, serve_listeners};
 use prt_service::{Released, Service, ServiceBrand};
 use sqlite::Connection;
 use std::sync::Mutex;
@@ -42,11 +42,11 @@ fn limits_of(asked: &ServeArgs<'_>) -> Limits
     }
 }
 
-/// Serves what comes at the doors by a service, with a gate that reports why a commit failed, and why nothing is accepted.
+/// Serves what comes where it listens by a service, with a gate that reports why a commit failed, and why nothing is accepted.
 fn serve_with_gate<H: Host, J: ServiceBrand + Send>(
     context: &ServerContext<'_, '_, '_, H>,
     service: &Service<H::Store, J>,
-    doors: &Doors<H::Net>,
+    listening: &Listening<H::Net>,
 ) -> Worked<J>
     ensures { result.end.accepting ≢ Accepting.Failed → result.end.refused ≡ None → vec_len result.shifts ≡ context.now.asked.now.workers }
 {
@@ -63,7 +63,7 @@ fn serve_with_gate<H: Host, J: ServiceBrand + Send>(
         accept_told: Mutex::new(None),
     };
     let sessions = ServiceContext::new(context.rt, context.alloc, service, &gate);
-    serve_entrances(&sessions, &doors.entrances, limits_of(context.asked))
+    serve_listeners(&sessions, &listening.listeners, limits_of(context.asked))
 }
 
 /// Checks whether the published list keeps all that the workers replied `ok` to.
@@ -89,7 +89,7 @@ fn not_kept(end: ServeEnd) -> ServeEnd
     }
 }
 
-/// Runs a service of the named front for what comes at the doors, and ends it. Returns how that ended, and the connection.
+/// Runs a service of the named front for what comes where it listens, and ends it. Returns how that ended, and the connection.
 ///
 /// At the end the list that each worker knew is compared with the published one: if it weren't a prefix, that is a fault.
 pub(crate) fn run_service<H: Host, J: ServiceBrand + Send>(
@@ -97,7 +97,7 @@ pub(crate) fn run_service<H: Host, J: ServiceBrand + Send>(
     publisher: Publisher<H::Store>,
     seats: Seats,
     domain: Domain,
-    doors: &Doors<H::Net>,
+    listening: &Listening<H::Net>,
 ) -> (ServeEnd, Connection<H::Store>)
     requires quiet { IsQuiet publisher.phase }
     requires of { IsNamed J.book J.base J.ours_first publisher }
@@ -106,7 +106,7 @@ pub(crate) fn run_service<H: Host, J: ServiceBrand + Send>(
         × (fault_of result.0 ≡ None → length shifts ≡ context.now.asked.now.workers) }
 {
     let service: Service<H::Store, J> = Service::new(publisher, seats, domain);
-    let Worked { end, shifts } = serve_with_gate(context, &service, doors);
+    let Worked { end, shifts } = serve_with_gate(context, &service, listening);
     let Released { conn, published } = service.end(context.rt);
     if are_kept(&published, shifts.as_slice()) {
         (end, conn)

@@ -41,14 +41,14 @@ fn tables_reason<S: Alter>(conn: &mut Connection<S>, refusal: Refusal) -> Option
 /// Closes a database that was refused, and returns what of its tables was, if that is known. What the closing answers says
 /// no more of that.
 pub(crate) fn close_refused<S: Alter + Drop, M: DatabaseOpener<Connection<S>>>(
-    machine: &mut M,
+    opener: &mut M,
     mut conn: Connection<S>,
     refusal: Refusal,
 ) -> Option<Reason>
-    ensures { (last : Held S) × IsOnlyRead S.Store refusal conn last × M.closes machine.old machine.new last }
+    ensures { (last : Held S) × IsOnlyRead S.Store refusal conn last × M.closes opener.old opener.new last }
 {
     let reason = tables_reason(&mut conn, refusal);
-    let _ = machine.close(conn);
+    let _ = opener.close(conn);
     reason
 }
 
@@ -67,14 +67,14 @@ fn library_cause(wanted: Wanted, error: LibraryError) -> Cause {
 /// Finds out why a database could not be opened, if that is known. The machine is asked first, since the library says no
 /// more of a file than that it can't be opened.
 pub(crate) fn cause_of<C, M: DatabaseOpener<C>>(
-    machine: &M,
+    opener: &M,
     path: &str,
     wanted: Wanted,
     refusal: Refusal,
     found: Result<Option<Reason>, LibraryError>,
 ) -> Option<Cause> {
     if let Refusal::OpenFailed = refusal {
-        if let Some(reason) = machine.why_not(path, wanted) {
+        if let Some(reason) = opener.why_not(path, wanted) {
             return Some(Cause::System(reason));
         }
     }

@@ -12,7 +12,7 @@ use std::alloc::Global;
 #[derive(Drop)]
 pub struct DatabaseFiles<'a, H: Host> {
     /// What opens and closes their files.
-    pub machine: H::Opener,
+    pub opener: H::Opener,
     /// Where scripts and listings are read.
     pub files: &'a H::Files,
     /// What desks wait with, and servers are reached by.
@@ -33,11 +33,11 @@ impl<'a, H: Host> Databases for DatabaseFiles<'a, H> {
     // Which bytes a path has is not known. An opening says what it made of the connection to them.
     ghost holds = { λ _ _ opened. IsSound opened };
 
-    ghost opens = { λ old new path desk. OpensOne H.Store.Store (H.Opener.opens Any old.machine new.machine path) desk };
+    ghost opens = { λ old new path desk. OpensOne H.Store.Store (H.Opener.opens Any old.opener new.opener path) desk };
 
-    ghost closed = { λ old new desk. IsKept H.Store.Store desk × H.Opener.closes old.machine new.machine desk.tables };
+    ghost closed = { λ old new desk. IsKept H.Store.Store desk × H.Opener.closes old.opener new.opener desk.tables };
 
-    ghost refuses = { λ old new path reason. LeavesNoneOpen H.Store.Store H.Opener.DatabaseOpener Any reason old.machine new.machine path };
+    ghost refuses = { λ old new path reason. LeavesNoneOpen H.Store.Store H.Opener.DatabaseOpener Any reason old.opener new.opener path };
 
     ghost leaves = { LeavesFound H.Store.Store };
 
@@ -46,7 +46,7 @@ impl<'a, H: Host> Databases for DatabaseFiles<'a, H> {
         alloc: Global,
         path: &str,
     ) -> Result<Self::Opened, (Refusal, Option<Cause>)> {
-        open_desk(&mut self.machine, self.rt, alloc, path, Wanted::Any)
+        open_desk(&mut self.opener, self.rt, alloc, path, Wanted::Any)
     }
 
     fn failure(&self, desk: &Self::Opened) -> Option<Cause> {
@@ -54,7 +54,7 @@ impl<'a, H: Host> Databases for DatabaseFiles<'a, H> {
     }
 
     fn close(&mut self, desk: Self::Opened) -> Result<(), Cause> {
-        match self.machine.close(desk.end()) {
+        match self.opener.close(desk.end()) {
             Ok(()) => Ok(()),
             Err(error) => Err(Cause::Library(error)),
         }

@@ -1,7 +1,7 @@
 //! What the program runs on.
 
 use crate::database_opener::DatabaseOpener;
-use crate::door::ServerNet;
+use crate::listener::ServerNet;
 use crate::measures::Measures;
 use prt_program::{ErrorKeeping, ReadFiles, StandardStreams};
 use sqlite::{Alter, Connection};
@@ -17,7 +17,7 @@ pub trait KeepsError {
     fn error(&self) -> Option<&io::Error>;
 }
 
-impl<S> KeepsError for ErrorKeeping<S> {
+impl<T> KeepsError for ErrorKeeping<T> {
     fn error(&self) -> Option<&io::Error> {
         ErrorKeeping::error(self)
     }

@@ -28,7 +28,7 @@ use std::sync::Wait;
 /// As of `publisher_over`, with the cause if it is known. No database is open then: one that was refused was closed
 /// again, and after the refusal only read.
 pub fn open_publisher<S: Alter + Drop, M: DatabaseOpener<Connection<S>>>(
-    machine: &mut M,
+    opener: &mut M,
     alloc: Global,
     path: &str,
     wanted: Wanted,
@@ -36,24 +36,24 @@ pub fn open_publisher<S: Alter + Drop, M: DatabaseOpener<Connection<S>>>(
     ensures ready { IfOk result (λ made. made.0.phase ≡ Phase.Ready) }
     ensures quiet { IfOk result (λ made. IsQuiet made.0.phase) }
     ensures sound { IfOk result (λ made. IsSound (line_state made.0.line)) }
-    ensures opened { IfOk result (λ made. OpensOne S.Store (M.opens wanted machine.old machine.new path.now) made.0) }
-    ensures there { wanted ≡ Wanted.Ours → OnOk result (M.is_there machine.old path.now) }
+    ensures opened { IfOk result (λ made. OpensOne S.Store (M.opens wanted opener.old opener.new path.now) made.0) }
+    ensures there { wanted ≡ Wanted.Ours → OnOk result (M.is_there opener.old path.now) }
     ensures reason { IfErr result (λ refused. IsOpenRefusal refused.0) }
-    ensures closed { IfErr result (λ refused. LeavesNoneOpen S.Store M.DatabaseOpener wanted refused.0 machine.old machine.new path.now) }
+    ensures closed { IfErr result (λ refused. LeavesNoneOpen S.Store M.DatabaseOpener wanted refused.0 opener.old opener.new path.now) }
 {
-    match publisher_over(alloc, machine.open(path, wanted)) {
+    match publisher_over(alloc, opener.open(path, wanted)) {
         Ok(made) => Ok(made),
         Err((refusal, Ok(conn))) => {
-            let reason = close_refused(machine, conn, refusal);
+            let reason = close_refused(opener, conn, refusal);
             Err((
                 refusal,
-                cause_of(machine, path, wanted, refusal, Ok(reason)),
+                cause_of(opener, path, wanted, refusal, Ok(reason)),
             ))
         }
         Err((refusal, Err(error))) => {
             Err((
                 refusal,
-                cause_of(machine, path, wanted, refusal, Err(error)),
+                cause_of(opener, path, wanted, refusal, Err(error)),
             ))
         }
     }
@@ -65,19 +65,19 @@ pub fn open_publisher<S: Alter + Drop, M: DatabaseOpener<Connection<S>>>(
 ///
 /// As of `open_publisher`.
 pub fn open_desk<S: Alter + Drop, M: DatabaseOpener<Connection<S>>, H: Wait + Copy + Drop>(
-    machine: &mut M,
+    opener: &mut M,
     rt: H,
     alloc: Global,
     path: &str,
     wanted: Wanted,
 ) -> Result<StoreDesk<S, H>, (Refusal, Option<Cause>)>
     ensures stands { IfOk result (λ desk. IsSound (published desk) × IsOpenOn (StandsFor S.Store) desk (published desk)) }
-    ensures opened { IfOk result (OpensOne S.Store (M.opens wanted machine.old machine.new path.now)) }
-    ensures there { wanted ≡ Wanted.Ours → OnOk result (M.is_there machine.old path.now) }
+    ensures opened { IfOk result (OpensOne S.Store (M.opens wanted opener.old opener.new path.now)) }
+    ensures there { wanted ≡ Wanted.Ours → OnOk result (M.is_there opener.old path.now) }
     ensures reason { IfErr result (λ refused. IsOpenRefusal refused.0) }
-    ensures closed { IfErr result (λ refused. LeavesNoneOpen S.Store M.DatabaseOpener wanted refused.0 machine.old machine.new path.now) }
+    ensures closed { IfErr result (λ refused. LeavesNoneOpen S.Store M.DatabaseOpener wanted refused.0 opener.old opener.new path.now) }
 {
-    match open_publisher(machine, alloc, path, wanted) {
+    match open_publisher(opener, alloc, path, wanted) {
         Ok((publisher, domain)) => Ok(StoreDesk::new(rt, publisher, domain)),
         Err(refused) => Err(refused),
     }
@@ -104,15 +104,15 @@ pub fn report_unopened<W: Write, E: Write>(
 
 /// Closes the database at a path, and reports it if its log could not be moved into its file.
 pub fn close_at<C, M: DatabaseOpener<C>, E: Write>(
-    machine: &mut M,
+    opener: &mut M,
     alloc: Global,
     path: &str,
     conn: C,
     errors: &mut E,
 )
-    ensures { M.closes machine.old machine.new conn }
+    ensures { M.closes opener.old opener.new conn }
 {
-    if let Err(reason) = machine.close(conn) {
+    if let Err(reason) = opener.close(conn) {
         tell(log_message(alloc, path, &reason), errors);
     }
 }

@@ -7,14 +7,14 @@ use std::io::{self, IsTerminal, Read, Write};
 ///
 /// It reads and writes as the stream itself. What it returns to its caller of an error is the kind.
 #[derive(Drop)]
-pub struct ErrorKeeping<S> {
-    stream: S,
+pub struct ErrorKeeping<T> {
+    stream: T,
     error: Option<io::Error>,
 }
 
-impl<S> ErrorKeeping<S> {
+impl<T> ErrorKeeping<T> {
     /// Makes a stream of which no call has failed.
-    pub fn new(stream: S) -> ErrorKeeping<S>
+    pub fn new(stream: T) -> ErrorKeeping<T>
         ensures { result.stream ≡ stream }
     {
         ErrorKeeping {
@@ -69,7 +69,7 @@ impl<W: Write> Write for ErrorKeeping<W> {
     }
 }
 
-impl<S: IsTerminal> IsTerminal for ErrorKeeping<S> {
+impl<T: IsTerminal> IsTerminal for ErrorKeeping<T> {
     fn is_terminal(&self) -> bool {
         self.stream.is_terminal()
     }

@@ -35,15 +35,15 @@ pub(crate) trait Host {
 }
 
 /// The host of these types.
-pub(crate) struct HostOf<F, D, W, E, K> {
-    types: PhantomData<(F, D, W, E, K)>,
+pub(crate) struct HostOf<F, B, W, E, K> {
+    types: PhantomData<(F, B, W, E, K)>,
 }
 
-impl<F: ReadFiles, D: Databases, W: Write + IsTerminal, E: Write + Drop, K: Clock + Drop> Host
-    for HostOf<F, D, W, E, K> {
+impl<F: ReadFiles, B: Databases, W: Write + IsTerminal, E: Write + Drop, K: Clock + Drop> Host
+    for HostOf<F, B, W, E, K> {
     type Files = F;
 
-    type Databases = D;
+    type Databases = B;
 
     type Output = W;
 

@@ -327,7 +327,7 @@ impl<'a, E: Write + Drop, K: Clock + Drop> Messages<'a, E, K> {
     }
 
     /// Reports why a file could not be read to its end, if it failed.
-    pub fn tell_failure<S>(&mut self, file: &str, stream: &ErrorKeeping<S>) {
+    pub fn tell_failure<T>(&mut self, file: &str, stream: &ErrorKeeping<T>) {
         if let Some(error) = stream.error() {
             self.wipe();
             self.write(cause_message(self.alloc, &file, error));

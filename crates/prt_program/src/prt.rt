@@ -6,10 +6,9 @@ ghost use Rattle.prt_refusals.specs.declared.refusal.Refusal.{Refusal};
 ghost use Rattle.prt_refusals.specs.declared.refusal.Refusal.TheVariants.{NoMemory, ReadFault};
 ghost use Rattle.prt_program.specs.Faults.{IsDatabaseFault, IsFault, IsOpening, IsScriptFault, database_of};
 ghost use Rattle.prt_program.specs.Program.{IfAsk, IfExit, IfServe, IfSubmit, IsUntouched, LeavesDatabases, LeavesInput, LeavesInputFor, Runs};
-ghost use Rattle.prt_program.specs.Program.{RunsAt, RunsBatch, RunsCheck, RunsNothing, RunsOn, RunsOver, RunsReplay, SessionIs, exit_status};
+ghost use Rattle.prt_program.specs.Program.{RunsAt, RunsBatch, RunsCheck, RunsNothing, RunsOn, RunsOver, RunsReplay, exit_status};
 ghost use Rattle.prt_program.specs.Program.{streams_of};
 ghost use Rattle.prt_session.specs.Open.{IsOpenOn};
-ghost use Rattle.prt_session.specs.Stands.{Explained, StandsForSome};
 ghost use Rattle.prt_version.specs.State.{State};
 ghost use Rattle.prt_args.specs.Read.{IsQuestionIn, IsServiceIn};
 ghost use Rattle.prt_args.specs.Tasks.{IsAskedFor, IsServing};
@@ -46,27 +45,7 @@ pub fn exit_status(end: ScriptEnd) -> u8
     }
 }
 
-/// Runs a script over a desk: line by line, or all its commands together.
-fn run_in<D: Desk, R: Read, W: Write, O: Observer>(
-    alloc: Global,
-    desk: &mut D,
-    reader: &mut R,
-    output: &mut W,
-    mode: Mode,
-    observer: &mut O,
-) -> ScriptEnd
-    ensures run { Explained D.stands desk.old desk.new (λ before after. SessionIs D.may mode before after
-        (R.remaining reader.old) (R.remaining reader.new) (W.contents output.old) (W.contents output.new) result) }
-    ensures left { StandsForSome D.stands desk.old → StandsForSome D.stands desk.new }
-    ensures keeps { D.keeps desk.old desk.new }
-{
-    match mode {
-        Mode::InTurn(on_refusal) => run_script(alloc, desk, reader, output, on_refusal, observer),
-        Mode::Together => run_atomic(alloc, desk, reader, output, observer),
-    }
-}
-
-/// Runs a script over a desk, and returns the exit status of the session.
+/// Runs a script over a desk, line by line or all its commands together, and returns the exit status of the session.
 fn run_over<H: Host, D: Desk, R: Read>(
     alloc: Global,
     desk: &mut D,
@@ -79,22 +58,25 @@ fn run_over<H: Host, D: Desk, R: Read>(
         RunsOn D.stands D.may mode opened desk.new (streams_of (R.remaining reader.old) (H.Output.contents output.old) (H.Output.contents output.new)) result }
     ensures keeps { D.keeps desk.old desk.new }
 {
-    let end = run_in(alloc, desk, reader, output, mode, messages);
+    let end = match mode {
+        Mode::InTurn(on_refusal) => run_script(alloc, desk, reader, output, on_refusal, messages),
+        Mode::Together => run_atomic(alloc, desk, reader, output, messages),
+    };
     messages.count_refusal(end);
     exit_status(end)
 }
 
 /// Opens the database at a path.
-fn open_database<D: Databases, E: Write + Drop, K: Clock + Drop>(
+fn open_database<B: Databases, E: Write + Drop, K: Clock + Drop>(
     alloc: Global,
-    databases: &mut D,
+    databases: &mut B,
     path: &str,
     messages: &mut Messages<'_, E, K>,
-) -> Result<D::Opened, Fault>
-    ensures opened { IfOk result (λ desk. (opened : State) × D.holds databases.old path.now opened × IsOpenOn D.Opened.stands desk opened) }
-    ensures opens { IfOk result (λ desk. D.opens databases.old databases.new path.now desk) }
+) -> Result<B::Opened, Fault>
+    ensures opened { IfOk result (λ desk. (opened : State) × B.holds databases.old path.now opened × IsOpenOn B.Opened.stands desk opened) }
+    ensures opens { IfOk result (λ desk. B.opens databases.old databases.new path.now desk) }
     ensures fault { IfErr result (IsOpening IsOpenRefusal) }
-    ensures refused { OnErr result ((reason : Refusal) × D.refuses databases.old databases.new path.now reason) }
+    ensures refused { OnErr result ((reason : Refusal) × B.refuses databases.old databases.new path.now reason) }
 {
     match databases.open(alloc, path) {
         Ok(desk) => Ok(desk),
@@ -370,9 +352,9 @@ fn run_words<'a, H: Host, R: Read>(
 ///
 /// The status is 0 if nothing was refused and after help, 1 if a line was refused, and 2 for bad words. It is 3
 /// for a fault of opening, of the store, of the reader or of the writer.
-pub fn program<'a, F: ReadFiles + Clock, D: Databases, T: StandardStreams>(
+pub fn program<'a, F: ReadFiles + Clock, B: Databases, T: StandardStreams>(
     files: &F,
-    databases: &mut D,
+    databases: &mut B,
     alloc: Global,
     words: &'a [String],
     input: &mut T::Input,
@@ -381,9 +363,9 @@ pub fn program<'a, F: ReadFiles + Clock, D: Databases, T: StandardStreams>(
 ) -> Next<'a>
     ensures run { IfExit (λ status.
         Runs (F.opens files.now) F.Opened.remaining
-        (RunsAt D.holds D.opens D.closed D.leaves D.Opened.stands D.Opened.keeps D.Opened.may databases.old databases.new)
+        (RunsAt B.holds B.opens B.closed B.leaves B.Opened.stands B.Opened.keeps B.Opened.may databases.old databases.new)
         (invocation (arguments words.now)) (streams_of (T.Input.remaining input.old) (T.Output.contents output.old) (T.Output.contents output.new)) status
-        ⊎ RunsNothing D.refuses databases.old databases.new (invocation (arguments words.now)) (T.Output.contents output.old) (T.Output.contents output.new) status) result }
+        ⊎ RunsNothing B.refuses databases.old databases.new (invocation (arguments words.now)) (T.Output.contents output.old) (T.Output.contents output.new) status) result }
     ensures serve { IfServe (λ serving.
         (invocation (arguments words.now) ≡ serve (arguments words.now)) × IsServing serving × IsServiceIn (arguments words.now) serving
         × (T.Output.contents output.new ≡ T.Output.contents output.old)) result }
@@ -400,7 +382,7 @@ pub fn program<'a, F: ReadFiles + Clock, D: Databases, T: StandardStreams>(
     if is_terminal {
         messages.turn_on();
     }
-    let mut around: RunContext<'_, '_, HostOf<F, D, T::Output, &mut T::Errors, &F>> = RunContext {
+    let mut around: RunContext<'_, '_, HostOf<F, B, T::Output, &mut T::Errors, &F>> = RunContext {
         alloc,
         files,
         databases: &mut *databases,

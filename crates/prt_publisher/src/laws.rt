@@ -8,8 +8,8 @@ use sqlite_disk::Disk;
 
 /// Files that a connection is closed to (`close_files`), and from which another one is opened (`open_files`), show what was
 /// left. Premise: the disk returns what was written.
-pub fn files_keep<D: Disk>()
-    ensures { FilesKeep D.Disk }
+pub fn files_keep<V: Disk>()
+    ensures { FilesKeep V.Disk }
 {}
 
 /// Whichever store call of commands a stop falls into, of one or of those of a file, a crash leaves the state before

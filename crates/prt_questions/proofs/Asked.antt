@@ -17,7 +17,7 @@ use Rattle.prt_replies.specs.Written.{Written}
 use Rattle.prt_version.specs.State.{State}
 use Rattle.prt_args.specs.declared.asking.Source.{Source}
 use Rattle.prt_args.specs.declared.asking.Source.TheVariants.{Database, Server, Script}
-use Rattle.prt_questions.specs.Asking.{IsAnswered, IsAnsweredAtMost, IsAskedOf, IsCutOff, IsNotAsked, IsQuery, IsReplied, IsRepliedAtMost, IsTold, IsWholeAnswer, called, said}
+use Rattle.prt_questions.specs.Asking.{IsAnswered, IsAnsweredAtMost, IsAskedOf, IsCutOff, IsNotAsked, IsQuery, IsReplied, IsRepliedAtMost, IsTold, IsWholeAnswer, with_labels, named_answer}
 use Rattle.prt_questions.specs.Sources.{Sources}
 use Rattle.prt_questions.specs.Told.{IsSaidOf, TellsOrReplies}
 use Rattle.prt_questions.specs.declared.inquiry.Inquiry.{Inquiry}
@@ -106,14 +106,14 @@ whole_answer question state answered are is = whole_by question state is.0.notes
 -- what a server said and was written, of its tables or by a session
 module _ {M S : Type 0} (g : Ghosts S) (by : Opener M (Held S)) (from : Sources) (machine : M) (writer0 writer : Option (List ℕ)) where
   pub told_whole : (place : ServerPlace) (line : List ℕ) (inquiry : Inquiry) (text : List ℕ) → IsQuery inquiry.question → IsTold (from.tells place) (from.replies place line) inquiry text → Appends writer0 writer text
-      → IsAnswered g by from machine machine writer0 writer (Server place) (said inquiry) (IsWholeAnswer inquiry.question)
-      ⊎ IsReplied g by from machine machine writer0 writer (Server place) line (called inquiry.labels inquiry.form (names_of inquiry.names.now))
+      → IsAnswered g by from machine machine writer0 writer (Server place) (named_answer inquiry) (IsWholeAnswer inquiry.question)
+      ⊎ IsReplied g by from machine machine writer0 writer (Server place) line (with_labels inquiry.labels inquiry.form (names_of inquiry.names.now))
   told_whole place line inquiry text query (inl (told, tells, is)) appended = inl (refl, told, tells, (rw (sym is) appended, query_is_whole inquiry.question told query))
   told_whole place line inquiry text query (inr (reply, replies, is)) appended = inr (refl, reply, replies, rw (sym is) appended)
 
   pub told_at_most : (place : ServerPlace) (line : List ℕ) (inquiry : Inquiry) → (writer ≡ writer0) ⊎ ((text : List ℕ) × IsTold (from.tells place) (from.replies place line) inquiry text × IsCutOff text writer0 writer)
-      → IsAnsweredAtMost g by from machine machine writer0 writer (Server place) (said inquiry)
-      ⊎ IsRepliedAtMost g by from machine machine writer0 writer (Server place) line (called inquiry.labels inquiry.form (names_of inquiry.names.now))
+      → IsAnsweredAtMost g by from machine machine writer0 writer (Server place) (named_answer inquiry)
+      ⊎ IsRepliedAtMost g by from machine machine writer0 writer (Server place) line (with_labels inquiry.labels inquiry.form (names_of inquiry.names.now))
   told_at_most place line inquiry (inl same) = inl (inl (refl, same))
   told_at_most place line inquiry (inr (text, inl (told, tells, is), cut)) = inl (inr (refl, told, tells, rw (sym is) cut))
   told_at_most place line inquiry (inr (text, inr (reply, replies, is), cut)) = inr (refl, reply, replies, rw (sym is) cut)

@@ -64,19 +64,19 @@ abbrev pub text_form : Form → Text
 text_form InLines = forms.Lines
 text_form Json = forms.Json
 
--- a text with tables called by their numbers, or by names
-abbrev pub called : Labels → Form → TableNames → List ℕ → List ℕ
-called Numbers form names text = text
-called Names form names text = with_names (text_form form) names text
+-- a text in which tables have their numbers, or names
+abbrev pub with_labels : Labels → Form → TableNames → List ℕ → List ℕ
+with_labels Numbers form names text = text
+with_labels Names form names text = with_names (text_form form) names text
 
-abbrev pub said : Inquiry → State → List ℕ
-said inquiry state = called inquiry.labels inquiry.form (names_of inquiry.names.now) (answer inquiry.question state)
+abbrev pub named_answer : Inquiry → State → List ℕ
+named_answer inquiry state = with_labels inquiry.labels inquiry.form (names_of inquiry.names.now) (answer inquiry.question state)
 
--- what a server says to an inquiry: the answer of the tables that it told, or what it replied, with tables called as it asks
+-- what a server says to an inquiry: the answer of the tables that it told, or what it replied, with the labels that it asks for
 abbrev pub IsTold : (tells : State → Type 0) → (replies : List ℕ → Type 0) → Inquiry → List ℕ → Type 0
 IsTold tells replies inquiry text =
-    ((told : State) × tells told × (text ≡ said inquiry told))
-    ⊎ ((reply : List ℕ) × replies reply × (text ≡ called inquiry.labels inquiry.form (names_of inquiry.names.now) reply))
+    ((told : State) × tells told × (text ≡ named_answer inquiry told))
+    ⊎ ((reply : List ℕ) × replies reply × (text ≡ with_labels inquiry.labels inquiry.form (names_of inquiry.names.now) reply))
 
 -- nothing was written, or a part of this text
 abbrev pub IsCutOff : List ℕ → (writer0 writer : Option (List ℕ)) → Type 0
@@ -251,16 +251,16 @@ module _ {M S : Type 0} (g : Ghosts S) (by : Opener M (Held S)) (from : Sources)
   abbrev pub HasAnswered : QueryArgs → Type 0
   HasAnswered asking =
       (asked : Question) × (question asking.verb asking.line.items asking.form ≡ Ok asked)
-      × (names : TableNames) × (IsAnswered asking.source (λ state. called asking.labels asking.form names (answer asked state)) (IsWholeAnswer asked)
-      ⊎ (IsQuery asked × IsReplied asking.source asking.line.items (called asking.labels asking.form names)))
+      × (names : TableNames) × (IsAnswered asking.source (λ state. with_labels asking.labels asking.form names (answer asked state)) (IsWholeAnswer asked)
+      ⊎ (IsQuery asked × IsReplied asking.source asking.line.items (with_labels asking.labels asking.form names)))
 
   -- in any case: its words ask nothing, or it was answered in part at most
   abbrev pub HasAnsweredAtMost : QueryArgs → Type 0
   HasAnsweredAtMost asking =
       (IsNotAsked g by old new asking.source × (writer ≡ writer0))
       ⊎ ((asked : Question) × (question asking.verb asking.line.items asking.form ≡ Ok asked)
-      × (names : TableNames) × (IsAnsweredAtMost asking.source (λ state. called asking.labels asking.form names (answer asked state))
-      ⊎ (IsQuery asked × IsRepliedAtMost asking.source asking.line.items (called asking.labels asking.form names))))
+      × (names : TableNames) × (IsAnsweredAtMost asking.source (λ state. with_labels asking.labels asking.form names (answer asked state))
+      ⊎ (IsQuery asked × IsRepliedAtMost asking.source asking.line.items (with_labels asking.labels asking.form names))))
 
 module _ {M S : Type 0} (g : Ghosts S) (by : Opener M (Held S)) (from : Sources) (old new : M) (writer0 writer : Option (List ℕ)) where
   -- what differs from a state that was found was written, or nothing differs

@@ -10,7 +10,7 @@ use Rattle.prt_import.specs.TableNames.{names_of}
 use Rattle.prt_version.specs.RowsSpell.{RowsSpell}
 use Rattle.prt_version.specs.State.{State}
 use Rattle.prt_args.specs.declared.server_place.ServerPlace.{ServerPlace}
-use Rattle.prt_questions.specs.Asking.{called, said}
+use Rattle.prt_questions.specs.Asking.{with_labels, named_answer}
 use Rattle.prt_questions.specs.Sources.{AreTold, IsReply}
 use Rattle.prt_questions.specs.declared.inquiry.Inquiry.{Inquiry}
 use Rattle.prt_machine.specs.declared.local.Socket.{Socket}
@@ -52,7 +52,7 @@ module _ {N Stream : Type 0} (reaches : N → ServerPlace → Socket → List �
 abbrev pub IsToldIn : Option (List ℕ) → Told → Type 0
 IsToldIn bytes told = TellsOrReplies (IsFeedOf bytes) (λ reply. IfSome bytes (λ all. reply ≡ all)) told
 
--- a text is what was said to an inquiry: the answer of the tables, or the reply, with tables called as it asks
+-- a text is what was said to an inquiry: the answer of the tables, or the reply, with the labels that it asks for
 abbrev pub IsSaidOf : Told → Inquiry → List ℕ → Type 0
-IsSaidOf (Tables version) inquiry text = text ≡ said inquiry version
-IsSaidOf (Reply reply) inquiry text = text ≡ called inquiry.labels inquiry.form (names_of inquiry.names.now) reply.items
+IsSaidOf (Tables version) inquiry text = text ≡ named_answer inquiry version
+IsSaidOf (Reply reply) inquiry text = text ≡ with_labels inquiry.labels inquiry.form (names_of inquiry.names.now) reply.items

@@ -26,7 +26,7 @@ const TRIES: usize = 3;
 /// Why nothing is sent to a server if the words don't say where it takes changes.
 const NO_PLACE: &str = "no place is named where the server takes atomic scripts";
 
-/// Has a server make changes over its tables of this number, so many together at most. `done` counts those that it made.
+/// Has a server make changes over its tables of this number, in parts of `MOST_TOGETHER` at most. `done` counts those that it made.
 ///
 /// # Errors
 ///

@@ -157,13 +157,13 @@ pub(crate) fn apply_to_database<H: Host>(
 ) -> u8
     ensures status { (result ≡ DONE) ⊎ (result ≡ FAULT) }
     ensures whole { result ≡ DONE →
-        IsMadeAt H.Store.Store H.Opener.DatabaseOpener databases.old.machine databases.new.machine (H.Output.contents output.old)
+        IsMadeAt H.Store.Store H.Opener.DatabaseOpener databases.old.opener databases.new.opener (H.Output.contents output.old)
         (H.Output.contents output.new) path.now manner.shows_impact manner.is_dry_run wanted.now }
-    ensures at_most { IsMadeAtMost H.Store.Store H.Opener.DatabaseOpener databases.old.machine databases.new.machine
+    ensures at_most { IsMadeAtMost H.Store.Store H.Opener.DatabaseOpener databases.old.opener databases.new.opener
         (H.Output.contents output.old) (H.Output.contents output.new) path.now manner.shows_impact manner.is_dry_run wanted.now }
 {
     let rt = databases.rt;
-    let opened = open_publisher(&mut databases.machine, alloc, path, wanted_by(manner));
+    let opened = open_publisher(&mut databases.opener, alloc, path, wanted_by(manner));
     let (mut publisher, domain) = match opened {
         Ok(made) => made,
         Err(refused) => return report_unopened(alloc, path, refused, output, errors),
@@ -180,7 +180,7 @@ pub(crate) fn apply_to_database<H: Host>(
         errors,
     );
     let last = publisher.end(&rt);
-    close_at(&mut databases.machine, alloc, path, last, errors);
+    close_at(&mut databases.opener, alloc, path, last, errors);
     status
 }
 
@@ -229,11 +229,11 @@ pub(crate) fn apply<H: Host>(
     ensures whole { result ≡ DONE →
         HasApplied H.Store.Store H.Opener.DatabaseOpener
         (sources_of H.Files.opens H.Files.Opened.remaining databases.old.files.now H.Net.reaches H.Net.Stream.remaining databases.old.rt
-        (H.Input.remaining input.old)) databases.old.machine databases.new.machine (H.Output.contents output.old)
+        (H.Input.remaining input.old)) databases.old.opener databases.new.opener (H.Output.contents output.old)
         (H.Output.contents output.new) applying.now }
     ensures at_most { HasAppliedAtMost H.Store.Store H.Opener.DatabaseOpener
         (sources_of H.Files.opens H.Files.Opened.remaining databases.old.files.now H.Net.reaches H.Net.Stream.remaining databases.old.rt
-        (H.Input.remaining input.old)) databases.old.machine databases.new.machine (H.Output.contents output.old)
+        (H.Input.remaining input.old)) databases.old.opener databases.new.opener (H.Output.contents output.old)
         (H.Output.contents output.new) applying.now }
 {
     let read = read_script::<H>(databases.files, alloc, applying.file, input, output, errors);

@@ -4,7 +4,7 @@ ghost use Rattle.std.specs.Io.KnownBytes.{Appends};
 ghost use Rattle.prt_ask.specs.Answers.{is_whole_change};
 ghost use Rattle.prt_ask.specs.Questions.{question};
 ghost use Rattle.prt_questions.specs.Asking.{HasAnswered, HasAnsweredAtMost, IsAnswered, IsAnsweredAtMost, IsAskedAt, IsCutOff, IsNotOpened, IsQuery};
-ghost use Rattle.prt_questions.specs.Asking.{IsReplied, IsRepliedAtMost, IsTold, IsWholeAnswer, called, said};
+ghost use Rattle.prt_questions.specs.Asking.{IsReplied, IsRepliedAtMost, IsTold, IsWholeAnswer, with_labels, named_answer};
 ghost use Rattle.prt_questions.specs.LeftOut.{AreKernels};
 ghost use Rattle.prt_import.specs.Accepted.{IsExecuted};
 ghost use Rattle.prt_import.specs.TableNames.{names_of};
@@ -14,7 +14,7 @@ ghost use Rattle.prt_questions.specs.Told.{IsQueryLine, IsSaidOf};
 ghost use Rattle.prt_version.specs.State.{State};
 ghost use Rattle.prt_args.specs.declared.asking.Source.TheVariants.{Server};
 
-use crate::inquiry::{Inquiry, called, said};
+use crate::inquiry::{Inquiry, named_answer, with_labels};
 use crate::left::{or_left, tell_left, tell_left_out};
 use crate::reading::{names_for, read_whole, report_no_memory};
 use crate::remote::{Told, ask_line, read_tables};
@@ -154,22 +154,22 @@ fn ask_database<H: Host, W: Write>(
 ) -> u8
     ensures status { (result ≡ DONE) ⊎ ((result ≡ REFUSED) ⊎ (result ≡ FAULT)) }
     ensures whole { result ≡ DONE →
-        IsAskedAt H.Store.Store H.Opener.DatabaseOpener databases.old.machine databases.new.machine path.now
-        (λ state. Appends (W.contents output.old) (W.contents output.new) (said inquiry.now state) × IsWholeAnswer inquiry.now.question state) }
-    ensures there { result ≡ DONE → H.Opener.is_there databases.old.machine path.now }
-    ensures at_most { (IsNotOpened H.Store.Store H.Opener.DatabaseOpener databases.old.machine databases.new.machine Wanted.Ours path.now
+        IsAskedAt H.Store.Store H.Opener.DatabaseOpener databases.old.opener databases.new.opener path.now
+        (λ state. Appends (W.contents output.old) (W.contents output.new) (named_answer inquiry.now state) × IsWholeAnswer inquiry.now.question state) }
+    ensures there { result ≡ DONE → H.Opener.is_there databases.old.opener path.now }
+    ensures at_most { (IsNotOpened H.Store.Store H.Opener.DatabaseOpener databases.old.opener databases.new.opener Wanted.Ours path.now
         × (W.contents output.new ≡ W.contents output.old))
-        ⊎ IsAskedAt H.Store.Store H.Opener.DatabaseOpener databases.old.machine databases.new.machine path.now
-        (λ state. IsCutOff (said inquiry.now state) (W.contents output.old) (W.contents output.new)) }
+        ⊎ IsAskedAt H.Store.Store H.Opener.DatabaseOpener databases.old.opener databases.new.opener path.now
+        (λ state. IsCutOff (named_answer inquiry.now state) (W.contents output.old) (W.contents output.new)) }
 {
     let rt = databases.rt;
-    let opened = open_desk(&mut databases.machine, rt, alloc, path, Wanted::Ours);
+    let opened = open_desk(&mut databases.opener, rt, alloc, path, Wanted::Ours);
     let desk = match opened {
         Ok(desk) => desk,
         Err(refused) => return report_unopened(alloc, path, refused, output, errors),
     };
-    let answered = said(alloc, desk.version(), inquiry);
-    close_at(&mut databases.machine, alloc, path, desk.end(), errors);
+    let answered = named_answer(alloc, desk.version(), inquiry);
+    close_at(&mut databases.opener, alloc, path, desk.end(), errors);
     write_answer(alloc, &path, answered, output, errors)
 }
 
@@ -185,14 +185,14 @@ fn ask_by_tables<N: LocalNet, W: Write, E: Write>(
     ensures status { (result ≡ DONE) ⊎ ((result ≡ REFUSED) ⊎ (result ≡ FAULT)) }
     ensures whole { result ≡ DONE →
         (told : State) × AreTold N.reaches N.Stream.remaining rt.now place.now told
-        × Appends (W.contents output.old) (W.contents output.new) (said inquiry.now told) × IsWholeAnswer inquiry.now.question told }
+        × Appends (W.contents output.old) (W.contents output.new) (named_answer inquiry.now told) × IsWholeAnswer inquiry.now.question told }
     ensures part { (W.contents output.new ≡ W.contents output.old)
         ⊎ ((told : State) × AreTold N.reaches N.Stream.remaining rt.now place.now told
-        × IsCutOff (said inquiry.now told) (W.contents output.old) (W.contents output.new)) }
+        × IsCutOff (named_answer inquiry.now told) (W.contents output.old) (W.contents output.new)) }
 {
     match read_tables(rt, alloc, place) {
         Ok(version) => {
-            let answered = said(alloc, &version, inquiry);
+            let answered = named_answer(alloc, &version, inquiry);
             write_answer(alloc, place, answered, output, errors)
         }
         Err(reason) => {
@@ -202,16 +202,16 @@ fn ask_by_tables<N: LocalNet, W: Write, E: Write>(
     }
 }
 
-/// Returns what a server said to an inquiry, with tables called as it asks.
-fn said_by(alloc: Global, told: Told, inquiry: &Inquiry<'_>) -> Result<Vec<u8>, AnswerError>
+/// Returns what a server said to an inquiry, with the labels of tables that it asks for.
+fn named_reply(alloc: Global, told: Told, inquiry: &Inquiry<'_>) -> Result<Vec<u8>, AnswerError>
     ensures { IfOk result (λ text. IsSaidOf told inquiry.now text.items) }
 {
     match told {
-        Told::Tables(version) => match said(alloc, &version, inquiry) {
+        Told::Tables(version) => match named_answer(alloc, &version, inquiry) {
             Ok(made) => Ok(made.text),
             Err(reason) => Err(reason),
         },
-        Told::Reply(reply) => called(alloc, inquiry, reply),
+        Told::Reply(reply) => with_labels(alloc, inquiry, reply),
     }
 }
 
@@ -244,7 +244,7 @@ fn ask_by_line<N: LocalNet, W: Write, E: Write>(
             return FAULT;
         }
     };
-    match said_by(alloc, told, inquiry) {
+    match named_reply(alloc, told, inquiry) {
         Ok(text) => write_text(text, output),
         Err(reason) => report_none(alloc, place, reason, output, errors),
     }
@@ -312,11 +312,11 @@ fn ask_script<H: Streams, W: Write>(
         (made : Accepted) × (text : List ℕ)
         × IsRead (IsFileOf H.Files.opens H.Files.Opened.remaining files.now) (H.Input.remaining input.old) (path_of file.entry) text
         × IsExecuted made text × AreKernels made.left.items
-        × Appends (W.contents output.old) (W.contents output.new) (said inquiry.now made.version) × IsWholeAnswer inquiry.now.question made.version }
+        × Appends (W.contents output.old) (W.contents output.new) (named_answer inquiry.now made.version) × IsWholeAnswer inquiry.now.question made.version }
     ensures part { (W.contents output.new ≡ W.contents output.old)
         ⊎ ((made : Accepted) × (text : List ℕ)
         × IsRead (IsFileOf H.Files.opens H.Files.Opened.remaining files.now) (H.Input.remaining input.old) (path_of file.entry) text
-        × IsExecuted made text × IsCutOff (said inquiry.now made.version) (W.contents output.old) (W.contents output.new)) }
+        × IsExecuted made text × IsCutOff (named_answer inquiry.now made.version) (W.contents output.old) (W.contents output.new)) }
 {
     let script = match read_whole::<H, _>(files, alloc, file, input, output, errors) {
         Ok(script) => script,
@@ -328,7 +328,7 @@ fn ask_script<H: Streams, W: Write>(
     };
     let left = tell_left(alloc, file, &made.left, errors);
     let place = file.unwrap_or(STANDARD_INPUT);
-    let answered = said(alloc, &made.version, inquiry);
+    let answered = named_answer(alloc, &made.version, inquiry);
     let written = write_answer(alloc, &place, answered, output, errors);
     if written == DONE {
         tell_left_out(alloc, place, &script, &inquiry.question, errors);
@@ -350,12 +350,12 @@ pub(crate) fn ask_source<H: Host, W: Write>(
     ensures whole { result ≡ DONE →
         IsAnswered H.Store.Store H.Opener.DatabaseOpener
         (sources_of H.Files.opens H.Files.Opened.remaining databases.old.files.now H.Net.reaches H.Net.Stream.remaining databases.old.rt
-        (H.Input.remaining input.old)) databases.old.machine databases.new.machine (W.contents output.old)
-        (W.contents output.new) source.now (said inquiry.now) (IsWholeAnswer inquiry.now.question) }
+        (H.Input.remaining input.old)) databases.old.opener databases.new.opener (W.contents output.old)
+        (W.contents output.new) source.now (named_answer inquiry.now) (IsWholeAnswer inquiry.now.question) }
     ensures at_most { IsAnsweredAtMost H.Store.Store H.Opener.DatabaseOpener
         (sources_of H.Files.opens H.Files.Opened.remaining databases.old.files.now H.Net.reaches H.Net.Stream.remaining databases.old.rt
-        (H.Input.remaining input.old)) databases.old.machine databases.new.machine (W.contents output.old)
-        (W.contents output.new) source.now (said inquiry.now) }
+        (H.Input.remaining input.old)) databases.old.opener databases.new.opener (W.contents output.old)
+        (W.contents output.new) source.now (named_answer inquiry.now) }
 {
     match source {
         Source::Database(path) => ask_database(databases, alloc, path, inquiry, output, errors),
@@ -396,24 +396,24 @@ fn ask_tables<H: Host>(
     ensures whole { result ≡ DONE →
         IsAnswered H.Store.Store H.Opener.DatabaseOpener
         (sources_of H.Files.opens H.Files.Opened.remaining databases.old.files.now H.Net.reaches H.Net.Stream.remaining databases.old.rt
-        (H.Input.remaining input.old)) databases.old.machine databases.new.machine (H.Output.contents output.old)
-        (H.Output.contents output.new) asking.now.source (said inquiry.now) (IsWholeAnswer inquiry.now.question)
+        (H.Input.remaining input.old)) databases.old.opener databases.new.opener (H.Output.contents output.old)
+        (H.Output.contents output.new) asking.now.source (named_answer inquiry.now) (IsWholeAnswer inquiry.now.question)
         ⊎ (IsQuery inquiry.now.question
         × IsReplied H.Store.Store H.Opener.DatabaseOpener
         (sources_of H.Files.opens H.Files.Opened.remaining databases.old.files.now H.Net.reaches H.Net.Stream.remaining databases.old.rt
-        (H.Input.remaining input.old)) databases.old.machine databases.new.machine (H.Output.contents output.old)
+        (H.Input.remaining input.old)) databases.old.opener databases.new.opener (H.Output.contents output.old)
         (H.Output.contents output.new) asking.now.source asking.now.line.items
-        (called inquiry.now.labels inquiry.now.form (names_of inquiry.now.names.now))) }
+        (with_labels inquiry.now.labels inquiry.now.form (names_of inquiry.now.names.now))) }
     ensures at_most { IsAnsweredAtMost H.Store.Store H.Opener.DatabaseOpener
         (sources_of H.Files.opens H.Files.Opened.remaining databases.old.files.now H.Net.reaches H.Net.Stream.remaining databases.old.rt
-        (H.Input.remaining input.old)) databases.old.machine databases.new.machine (H.Output.contents output.old)
-        (H.Output.contents output.new) asking.now.source (said inquiry.now)
+        (H.Input.remaining input.old)) databases.old.opener databases.new.opener (H.Output.contents output.old)
+        (H.Output.contents output.new) asking.now.source (named_answer inquiry.now)
         ⊎ (IsQuery inquiry.now.question
         × IsRepliedAtMost H.Store.Store H.Opener.DatabaseOpener
         (sources_of H.Files.opens H.Files.Opened.remaining databases.old.files.now H.Net.reaches H.Net.Stream.remaining databases.old.rt
-        (H.Input.remaining input.old)) databases.old.machine databases.new.machine (H.Output.contents output.old)
+        (H.Input.remaining input.old)) databases.old.opener databases.new.opener (H.Output.contents output.old)
         (H.Output.contents output.new) asking.now.source asking.now.line.items
-        (called inquiry.now.labels inquiry.now.form (names_of inquiry.now.names.now))) }
+        (with_labels inquiry.now.labels inquiry.now.form (names_of inquiry.now.names.now))) }
 {
     let (source, rt) = (&asking.source, databases.rt);
     match server_for_line(source, &inquiry.question) {
@@ -443,11 +443,11 @@ pub(crate) fn ask<H: Host>(
     ensures whole { result ≡ DONE →
         HasAnswered H.Store.Store H.Opener.DatabaseOpener
         (sources_of H.Files.opens H.Files.Opened.remaining databases.old.files.now H.Net.reaches H.Net.Stream.remaining databases.old.rt
-        (H.Input.remaining input.old)) databases.old.machine databases.new.machine (H.Output.contents output.old)
+        (H.Input.remaining input.old)) databases.old.opener databases.new.opener (H.Output.contents output.old)
         (H.Output.contents output.new) asking.now }
     ensures at_most { HasAnsweredAtMost H.Store.Store H.Opener.DatabaseOpener
         (sources_of H.Files.opens H.Files.Opened.remaining databases.old.files.now H.Net.reaches H.Net.Stream.remaining databases.old.rt
-        (H.Input.remaining input.old)) databases.old.machine databases.new.machine (H.Output.contents output.old)
+        (H.Input.remaining input.old)) databases.old.opener databases.new.opener (H.Output.contents output.old)
         (H.Output.contents output.new) asking.now }
 {
     let question = match question_of(asking.verb, &asking.line, asking.form) {

@@ -214,7 +214,7 @@ pub(crate) fn assert_claims<H: Host>(
     ensures found { (result ≡ DONE) ⊎ (result ≡ REFUSED) →
         IsFoundOf H.Store.Store H.Opener.DatabaseOpener
         (sources_of H.Files.opens H.Files.Opened.remaining databases.old.files.now H.Net.reaches H.Net.Stream.remaining databases.old.rt
-        (H.Input.remaining input.old)) databases.old.machine databases.new.machine asserting.now.source result
+        (H.Input.remaining input.old)) databases.old.opener databases.new.opener asserting.now.source result
         (IsAsserted (Gives (after (rest_by asserting.now.source)
         (sources_of H.Files.opens H.Files.Opened.remaining databases.old.files.now H.Net.reaches H.Net.Stream.remaining databases.old.rt
         (H.Input.remaining input.old))) (path_of asserting.now.file)) (H.Output.contents output.old)
@@ -222,13 +222,13 @@ pub(crate) fn assert_claims<H: Host>(
     ensures unreadable { result ≡ UNREADABLE →
         IsFoundOf H.Store.Store H.Opener.DatabaseOpener
         (sources_of H.Files.opens H.Files.Opened.remaining databases.old.files.now H.Net.reaches H.Net.Stream.remaining databases.old.rt
-        (H.Input.remaining input.old)) databases.old.machine databases.new.machine asserting.now.source UNREADABLE
+        (H.Input.remaining input.old)) databases.old.opener databases.new.opener asserting.now.source UNREADABLE
         (IsUnreadable (Gives (after (rest_by asserting.now.source)
         (sources_of H.Files.opens H.Files.Opened.remaining databases.old.files.now H.Net.reaches H.Net.Stream.remaining databases.old.rt
         (H.Input.remaining input.old))) (path_of asserting.now.file)) (H.Output.contents output.old) (H.Output.contents output.new)) }
     ensures at_most { IsFoundAtMost H.Store.Store H.Opener.DatabaseOpener
         (sources_of H.Files.opens H.Files.Opened.remaining databases.old.files.now H.Net.reaches H.Net.Stream.remaining databases.old.rt
-        (H.Input.remaining input.old)) databases.old.machine databases.new.machine (H.Output.contents output.old)
+        (H.Input.remaining input.old)) databases.old.opener databases.new.opener (H.Output.contents output.old)
         (H.Output.contents output.new) asserting.now.source
         (IsAssertedAtMost (Gives (after (rest_by asserting.now.source)
         (sources_of H.Files.opens H.Files.Opened.remaining databases.old.files.now H.Net.reaches H.Net.Stream.remaining databases.old.rt

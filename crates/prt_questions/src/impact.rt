@@ -162,14 +162,14 @@ pub(crate) fn rehearse<H: Host>(
     ensures found { (result ≡ DONE) ⊎ (result ≡ REFUSED) →
         IsFoundOf H.Store.Store H.Opener.DatabaseOpener
         (sources_of H.Files.opens H.Files.Opened.remaining databases.old.files.now H.Net.reaches H.Net.Stream.remaining databases.old.rt
-        (H.Input.remaining input.old)) databases.old.machine databases.new.machine rehearsing.now.source result
+        (H.Input.remaining input.old)) databases.old.opener databases.new.opener rehearsing.now.source result
         (IsRehearsed (Gives (after (rest_by rehearsing.now.source)
         (sources_of H.Files.opens H.Files.Opened.remaining databases.old.files.now H.Net.reaches H.Net.Stream.remaining databases.old.rt
         (H.Input.remaining input.old))) (path_of rehearsing.now.file)) (H.Output.contents output.old)
         (H.Output.contents output.new) rehearsing.now result) }
     ensures at_most { IsFoundAtMost H.Store.Store H.Opener.DatabaseOpener
         (sources_of H.Files.opens H.Files.Opened.remaining databases.old.files.now H.Net.reaches H.Net.Stream.remaining databases.old.rt
-        (H.Input.remaining input.old)) databases.old.machine databases.new.machine (H.Output.contents output.old)
+        (H.Input.remaining input.old)) databases.old.opener databases.new.opener (H.Output.contents output.old)
         (H.Output.contents output.new) rehearsing.now.source
         (IsRehearsedAtMost (Gives (after (rest_by rehearsing.now.source)
         (sources_of H.Files.opens H.Files.Opened.remaining databases.old.files.now H.Net.reaches H.Net.Stream.remaining databases.old.rt

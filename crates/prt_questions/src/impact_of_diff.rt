@@ -107,17 +107,17 @@ pub(crate) fn diff_with_impact<H: Host>(
     ensures whole { result ≡ DONE →
         IsAskedOf H.Store.Store H.Opener.DatabaseOpener
         (sources_of H.Files.opens H.Files.Opened.remaining databases.old.files.now H.Net.reaches H.Net.Stream.remaining databases.old.rt
-        (H.Input.remaining input.old)) databases.old.machine databases.new.machine source.now
+        (H.Input.remaining input.old)) databases.old.opener databases.new.opener source.now
         (λ state. (text : List ℕ) × IsWithImpact comparison.now.fence.now comparison.now.found.now state text
         × Appends (H.Output.contents output.old) (H.Output.contents output.new) text
         × IsWholeChange comparison.now.fence.now comparison.now.found.now state) }
     ensures at_most { ((H.Output.contents output.new ≡ H.Output.contents output.old)
         × IsNotRead H.Store.Store H.Opener.DatabaseOpener
         (sources_of H.Files.opens H.Files.Opened.remaining databases.old.files.now H.Net.reaches H.Net.Stream.remaining databases.old.rt
-        (H.Input.remaining input.old)) databases.old.machine databases.new.machine source.now)
+        (H.Input.remaining input.old)) databases.old.opener databases.new.opener source.now)
         ⊎ IsAskedOf H.Store.Store H.Opener.DatabaseOpener
         (sources_of H.Files.opens H.Files.Opened.remaining databases.old.files.now H.Net.reaches H.Net.Stream.remaining databases.old.rt
-        (H.Input.remaining input.old)) databases.old.machine databases.new.machine source.now
+        (H.Input.remaining input.old)) databases.old.opener databases.new.opener source.now
         (λ state. (text : List ℕ) × IsWithImpact comparison.now.fence.now comparison.now.found.now state text
         × IsCutOff text (H.Output.contents output.old) (H.Output.contents output.new)) }
 {

@@ -2,7 +2,7 @@
 ghost use Rattle.std.specs.Prelude.{◌≡◌, ◌⊎◌, IfErr, IfOk, OnOk, [], true};
 ghost use Rattle.std.specs.List.{list_any};
 ghost use Rattle.prt_questions.specs.Asking.{AreKept, AreLinesOf, HasCompared, HasComparedAtMost, IsAskedOf, IsFenced, IsListing, IsMadeOf};
-ghost use Rattle.prt_questions.specs.Asking.{IsNotAsked, IsShown, IsShownAtMost, IsWholeAnswer, IsWholeFenced, adds, is_any_known, said};
+ghost use Rattle.prt_questions.specs.Asking.{IsNotAsked, IsShown, IsShownAtMost, IsWholeAnswer, IsWholeFenced, adds, is_any_known, named_answer};
 ghost use Rattle.prt_questions.specs.LeftOut.{is_kernels};
 ghost use Rattle.prt_questions.specs.Sources.{HasLeft, IsFileOf, IsRead, path_of, rest_after, sources_of};
 ghost use Rattle.prt_questions.specs.Importing.{HasImported, HasImportedAtMost, IsImported, IsImportedAtMost};
@@ -230,9 +230,9 @@ fn print_or_make<H: Host>(
 ) -> u8
     ensures status { (result ≡ DONE) ⊎ (result ≡ FAULT) }
     ensures whole { result ≡ DONE →
-        IsImported H.Store.Store H.Opener.DatabaseOpener databases.old.machine databases.new.machine (H.Output.contents output.old)
+        IsImported H.Store.Store H.Opener.DatabaseOpener databases.old.opener databases.new.opener (H.Output.contents output.old)
         (H.Output.contents output.new) (path_of database.entry) accepted }
-    ensures at_most { IsImportedAtMost H.Store.Store H.Opener.DatabaseOpener databases.old.machine databases.new.machine
+    ensures at_most { IsImportedAtMost H.Store.Store H.Opener.DatabaseOpener databases.old.opener databases.new.opener
         (H.Output.contents output.old) (H.Output.contents output.new) (path_of database.entry) accepted }
 {
     match database {
@@ -262,11 +262,11 @@ pub(crate) fn import_listing<H: Host>(
     ensures whole { result ≡ DONE →
         HasImported H.Store.Store H.Opener.DatabaseOpener
         (sources_of H.Files.opens H.Files.Opened.remaining databases.old.files.now H.Net.reaches H.Net.Stream.remaining databases.old.rt
-        (H.Input.remaining input.old)) databases.old.machine databases.new.machine (H.Output.contents output.old)
+        (H.Input.remaining input.old)) databases.old.opener databases.new.opener (H.Output.contents output.old)
         (H.Output.contents output.new) (path_of importing.now.file) (path_of importing.now.database) }
     ensures at_most { HasImportedAtMost H.Store.Store H.Opener.DatabaseOpener
         (sources_of H.Files.opens H.Files.Opened.remaining databases.old.files.now H.Net.reaches H.Net.Stream.remaining databases.old.rt
-        (H.Input.remaining input.old)) databases.old.machine databases.new.machine (H.Output.contents output.old)
+        (H.Input.remaining input.old)) databases.old.opener databases.new.opener (H.Output.contents output.old)
         (H.Output.contents output.new) (path_of importing.now.file) (path_of importing.now.database) }
 {
     let read = read_listing::<H>(
@@ -305,12 +305,12 @@ fn compare<H: Host>(
     ensures same { result ≡ DONE →
         IsAskedOf H.Store.Store H.Opener.DatabaseOpener
         (sources_of H.Files.opens H.Files.Opened.remaining databases.old.files.now H.Net.reaches H.Net.Stream.remaining databases.old.rt
-        (H.Input.remaining input.old)) databases.old.machine databases.new.machine source.now
-        (λ state. (said inquiry.now state ≡ []) × IsWholeAnswer inquiry.now.question state) }
-    ensures part { IsNotAsked H.Store.Store H.Opener.DatabaseOpener databases.old.machine databases.new.machine source.now
+        (H.Input.remaining input.old)) databases.old.opener databases.new.opener source.now
+        (λ state. (named_answer inquiry.now state ≡ []) × IsWholeAnswer inquiry.now.question state) }
+    ensures part { IsNotAsked H.Store.Store H.Opener.DatabaseOpener databases.old.opener databases.new.opener source.now
         ⊎ IsAskedOf H.Store.Store H.Opener.DatabaseOpener
         (sources_of H.Files.opens H.Files.Opened.remaining databases.old.files.now H.Net.reaches H.Net.Stream.remaining databases.old.rt
-        (H.Input.remaining input.old)) databases.old.machine databases.new.machine source.now (λ state. Unit {0}) }
+        (H.Input.remaining input.old)) databases.old.opener databases.new.opener source.now (λ state. Unit {0}) }
 {
     let mut lines: Vec<u8> = Vec::new(alloc);
     let asked = ask_source(databases, alloc, source, inquiry, input, &mut lines, errors);
@@ -339,11 +339,11 @@ fn show_difference<H: Host>(
     ensures whole { result ≡ DONE →
         IsShown H.Store.Store H.Opener.DatabaseOpener
         (sources_of H.Files.opens H.Files.Opened.remaining databases.old.files.now H.Net.reaches H.Net.Stream.remaining databases.old.rt
-        (H.Input.remaining input.old)) databases.old.machine databases.new.machine (H.Output.contents output.old)
+        (H.Input.remaining input.old)) databases.old.opener databases.new.opener (H.Output.contents output.old)
         (H.Output.contents output.new) comparison.now.fence.now comparison.now.found.now diffing.now.shown diffing.now.source }
     ensures at_most { IsShownAtMost H.Store.Store H.Opener.DatabaseOpener
         (sources_of H.Files.opens H.Files.Opened.remaining databases.old.files.now H.Net.reaches H.Net.Stream.remaining databases.old.rt
-        (H.Input.remaining input.old)) databases.old.machine databases.new.machine (H.Output.contents output.old)
+        (H.Input.remaining input.old)) databases.old.opener databases.new.opener (H.Output.contents output.old)
         (H.Output.contents output.new) comparison.now.fence.now comparison.now.found.now diffing.now.shown diffing.now.source }
 {
     let inquiry = Inquiry {
@@ -380,11 +380,11 @@ pub(crate) fn diff<H: Host>(
     ensures whole { result ≡ DONE →
         HasCompared H.Store.Store H.Opener.DatabaseOpener
         (sources_of H.Files.opens H.Files.Opened.remaining databases.old.files.now H.Net.reaches H.Net.Stream.remaining databases.old.rt
-        (H.Input.remaining input.old)) databases.old.machine databases.new.machine (H.Output.contents output.old)
+        (H.Input.remaining input.old)) databases.old.opener databases.new.opener (H.Output.contents output.old)
         (H.Output.contents output.new) (path_of diffing.now.file) diffing.now.reach diffing.now.shown diffing.now.source }
     ensures at_most { HasComparedAtMost H.Store.Store H.Opener.DatabaseOpener
         (sources_of H.Files.opens H.Files.Opened.remaining databases.old.files.now H.Net.reaches H.Net.Stream.remaining databases.old.rt
-        (H.Input.remaining input.old)) databases.old.machine databases.new.machine (H.Output.contents output.old)
+        (H.Input.remaining input.old)) databases.old.opener databases.new.opener (H.Output.contents output.old)
         (H.Output.contents output.new) (path_of diffing.now.file) diffing.now.reach diffing.now.shown diffing.now.source }
 {
     let (files, file, reach) = (databases.files, diffing.file, &diffing.reach);

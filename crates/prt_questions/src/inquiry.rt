@@ -1,7 +1,7 @@
 //! What is asked about tables, and how an answer calls them.
 ghost use Rattle.std.specs.Prelude.{◌≡◌, IfOk};
 ghost use Rattle.prt_ask.specs.Answers.{AreNotes};
-ghost use Rattle.prt_questions.specs.Asking.{called, said, text_form};
+ghost use Rattle.prt_questions.specs.Asking.{with_labels, named_answer, text_form};
 ghost use Rattle.prt_import.specs.TableNames.{names_of};
 
 use prt_args::{Form, Labels};
@@ -30,13 +30,13 @@ fn text_form(form: Form) -> Text
     }
 }
 
-/// Returns a text with tables called as these labels do.
-pub(crate) fn called(
+/// Returns a text in which tables have names or numbers, as is asked.
+pub(crate) fn with_labels(
     alloc: Global,
     inquiry: &Inquiry<'_>,
     text: Vec<u8>,
 ) -> Result<Vec<u8>, AnswerError>
-    ensures { IfOk result (λ made. made.items ≡ called inquiry.now.labels inquiry.now.form (names_of inquiry.now.names.now) text.items) }
+    ensures { IfOk result (λ made. made.items ≡ with_labels inquiry.now.labels inquiry.now.form (names_of inquiry.now.names.now) text.items) }
 {
     let Labels::Names = inquiry.labels else {
         return Ok(text);
@@ -47,24 +47,24 @@ pub(crate) fn called(
     }
 }
 
-/// Returns what a version answers, and what is reported of it to a person.
+/// Returns what a version answers, with these labels of tables, and what is reported of it to a person.
 ///
 /// # Errors
 ///
 /// As of `answer`, and `NoMemory`.
-pub(crate) fn said(
+pub(crate) fn named_answer(
     alloc: Global,
     version: &Version,
     inquiry: &Inquiry<'_>,
 ) -> Result<Answered, AnswerError>
-    ensures text { IfOk result (λ made. made.text.items ≡ said inquiry.now version.now) }
+    ensures text { IfOk result (λ made. made.text.items ≡ named_answer inquiry.now version.now) }
     ensures notes { IfOk result (λ made. AreNotes inquiry.now.question version.now made.notes) }
 {
     let Answered { text, notes } = match answer(alloc, version, &inquiry.question) {
         Ok(made) => made,
         Err(reason) => return Err(reason),
     };
-    match called(alloc, inquiry, text) {
+    match with_labels(alloc, inquiry, text) {
         Ok(text) => Ok(Answered { text, notes }),
         Err(reason) => Err(reason),
     }

@@ -30,26 +30,26 @@ pub fn answer_question<H: Host>(
     ensures whole { result ≡ DONE →
         IsDone H.Store.Store H.Opener.DatabaseOpener
         (sources_of H.Files.opens H.Files.Opened.remaining databases.old.files.now H.Net.reaches H.Net.Stream.remaining databases.old.rt
-        (H.Input.remaining input.old)) databases.old.machine databases.new.machine (H.Output.contents output.old)
+        (H.Input.remaining input.old)) databases.old.opener databases.new.opener (H.Output.contents output.old)
         (H.Output.contents output.new) asked.now }
     ensures found { result ≡ REFUSED →
         IsFound H.Store.Store H.Opener.DatabaseOpener
         (sources_of H.Files.opens H.Files.Opened.remaining databases.old.files.now H.Net.reaches H.Net.Stream.remaining databases.old.rt
-        (H.Input.remaining input.old)) databases.old.machine databases.new.machine (H.Output.contents output.old)
+        (H.Input.remaining input.old)) databases.old.opener databases.new.opener (H.Output.contents output.old)
         (H.Output.contents output.new) asked.now }
     ensures unreadable { result ≡ UNREADABLE →
         IsFoundUnreadable H.Store.Store H.Opener.DatabaseOpener
         (sources_of H.Files.opens H.Files.Opened.remaining databases.old.files.now H.Net.reaches H.Net.Stream.remaining databases.old.rt
-        (H.Input.remaining input.old)) databases.old.machine databases.new.machine (H.Output.contents output.old)
+        (H.Input.remaining input.old)) databases.old.opener databases.new.opener (H.Output.contents output.old)
         (H.Output.contents output.new) asked.now }
     ensures closed { result ≡ CLOSED →
         IsFoundClosed H.Store.Store H.Opener.DatabaseOpener
         (sources_of H.Files.opens H.Files.Opened.remaining databases.old.files.now H.Net.reaches H.Net.Stream.remaining databases.old.rt
-        (H.Input.remaining input.old)) databases.old.machine databases.new.machine (H.Output.contents output.old)
+        (H.Input.remaining input.old)) databases.old.opener databases.new.opener (H.Output.contents output.old)
         (H.Output.contents output.new) asked.now }
     ensures at_most { IsDoneAtMost H.Store.Store H.Opener.DatabaseOpener
         (sources_of H.Files.opens H.Files.Opened.remaining databases.old.files.now H.Net.reaches H.Net.Stream.remaining databases.old.rt
-        (H.Input.remaining input.old)) databases.old.machine databases.new.machine (H.Output.contents output.old)
+        (H.Input.remaining input.old)) databases.old.opener databases.new.opener (H.Output.contents output.old)
         (H.Output.contents output.new) asked.now }
 {
     match asked {

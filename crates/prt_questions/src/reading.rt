@@ -11,7 +11,7 @@ use std::fmt::Display;
 use std::io::{self, Read, Write};
 
 /// Where iproute2 has names of one kind. Of two names of one number it shows the last one.
-struct Places {
+struct NameFiles {
     /// The first of these that exists counts.
     files: [&'static str; 2],
     /// Each file of these whose name ends with `.conf` counts. A path ends with a slash.
@@ -19,7 +19,7 @@ struct Places {
 }
 
 /// Names of tables.
-const TABLES: Places = Places {
+const TABLES: NameFiles = NameFiles {
     files: ["/etc/iproute2/rt_tables", "/usr/share/iproute2/rt_tables"],
     folders: [
         "/usr/share/iproute2/rt_tables.d/",
@@ -28,7 +28,7 @@ const TABLES: Places = Places {
 };
 
 /// Names of routing protocols.
-const PROTOCOLS: Places = Places {
+const PROTOCOLS: NameFiles = NameFiles {
     files: ["/etc/iproute2/rt_protos", "/usr/share/iproute2/rt_protos"],
     folders: [
         "/usr/share/iproute2/rt_protos.d/",
@@ -182,7 +182,7 @@ fn add_first_names<F: ReadFiles>(
 fn read_names<F: ReadFiles>(
     files: &F,
     alloc: Global,
-    places: &Places,
+    places: &NameFiles,
 ) -> Result<Names, AllocError> {
     let mut names = Names::new(alloc);
     add_first_names(files, alloc, &places.files, &mut names)?;

@@ -80,11 +80,11 @@ pub(crate) fn search<H: Host>(
     ensures found { (result ≡ DONE) ⊎ (result ≡ REFUSED) →
         IsFoundOf H.Store.Store H.Opener.DatabaseOpener
         (sources_of H.Files.opens H.Files.Opened.remaining databases.old.files.now H.Net.reaches H.Net.Stream.remaining databases.old.rt
-        (H.Input.remaining input.old)) databases.old.machine databases.new.machine source.now result
+        (H.Input.remaining input.old)) databases.old.opener databases.new.opener source.now result
         (IsSearched (H.Output.contents output.old) (H.Output.contents output.new) result) }
     ensures at_most { IsFoundAtMost H.Store.Store H.Opener.DatabaseOpener
         (sources_of H.Files.opens H.Files.Opened.remaining databases.old.files.now H.Net.reaches H.Net.Stream.remaining databases.old.rt
-        (H.Input.remaining input.old)) databases.old.machine databases.new.machine (H.Output.contents output.old)
+        (H.Input.remaining input.old)) databases.old.opener databases.new.opener (H.Output.contents output.old)
         (H.Output.contents output.new) source.now (IsSearchedAtMost (H.Output.contents output.old) (H.Output.contents output.new)) }
 {
     let tables = match tables_at(databases, alloc, source, input, output, errors) {

@@ -42,23 +42,23 @@ fn database_tables<H: Host>(
     errors: &mut H::Errors,
 ) -> Result<Tables, u8>
     ensures read { IfOk result (λ tables.
-        IsAskedAt H.Store.Store H.Opener.DatabaseOpener databases.old.machine databases.new.machine path.now (λ state. tables.version ≡ state)) }
-    ensures there { OnOk result (H.Opener.is_there databases.old.machine path.now) }
+        IsAskedAt H.Store.Store H.Opener.DatabaseOpener databases.old.opener databases.new.opener path.now (λ state. tables.version ≡ state)) }
+    ensures there { OnOk result (H.Opener.is_there databases.old.opener path.now) }
     ensures unread { IfErr result (λ status.
-        IsNotOpened H.Store.Store H.Opener.DatabaseOpener databases.old.machine databases.new.machine Wanted.Ours path.now
-        ⊎ IsAskedAt H.Store.Store H.Opener.DatabaseOpener databases.old.machine databases.new.machine path.now (λ state. Unit {0})) }
+        IsNotOpened H.Store.Store H.Opener.DatabaseOpener databases.old.opener databases.new.opener Wanted.Ours path.now
+        ⊎ IsAskedAt H.Store.Store H.Opener.DatabaseOpener databases.old.opener databases.new.opener path.now (λ state. Unit {0})) }
     ensures left { IfOk result (λ tables. (tables.left ≡ DONE) ⊎ (tables.left ≡ REFUSED)) }
     ensures fault { IfErr result (λ status. status ≡ FAULT) }
     ensures unwritten { H.Output.contents output.new ≡ H.Output.contents output.old }
 {
     let rt = databases.rt;
-    let opened = open_desk(&mut databases.machine, rt, alloc, path, Wanted::Ours);
+    let opened = open_desk(&mut databases.opener, rt, alloc, path, Wanted::Ours);
     let desk = match opened {
         Ok(desk) => desk,
         Err(refused) => return Err(report_unopened(alloc, path, refused, output, errors)),
     };
     let shared = desk.version().share();
-    close_at(&mut databases.machine, alloc, path, desk.end(), errors);
+    close_at(&mut databases.opener, alloc, path, desk.end(), errors);
     match shared {
         Ok(version) => Ok(Tables {
             version,
@@ -143,12 +143,12 @@ pub(crate) fn tables_at<H: Host>(
     ensures read { IfOk result (λ tables.
         HaveTables H.Store.Store H.Opener.DatabaseOpener
         (sources_of H.Files.opens H.Files.Opened.remaining databases.old.files.now H.Net.reaches H.Net.Stream.remaining databases.old.rt
-        (H.Input.remaining input.old)) databases.old.machine databases.new.machine source.now tables.left tables.version) }
+        (H.Input.remaining input.old)) databases.old.opener databases.new.opener source.now tables.left tables.version) }
     ensures rest { OnOk result (HasLeft (rest_by source.now) (H.Input.remaining input.old) (H.Input.remaining input.new)) }
     ensures unread { IfErr result (λ status.
         IsNotRead H.Store.Store H.Opener.DatabaseOpener
         (sources_of H.Files.opens H.Files.Opened.remaining databases.old.files.now H.Net.reaches H.Net.Stream.remaining databases.old.rt
-        (H.Input.remaining input.old)) databases.old.machine databases.new.machine source.now) }
+        (H.Input.remaining input.old)) databases.old.opener databases.new.opener source.now) }
     ensures left { IfOk result (λ tables. (tables.left ≡ DONE) ⊎ (tables.left ≡ REFUSED)) }
     ensures fault { IfErr result (λ status. status ≡ FAULT) }
     ensures unwritten { H.Output.contents output.new ≡ H.Output.contents output.old }

@@ -5,10 +5,10 @@ use Rattle.std.proofs.lemmas.Bool.Decides.{nat_tests}
 use Rattle.std.proofs.lemmas.Fmt.{length-decimal-le}
 use Rattle.std.specs.Prelude.{decimal}
 use Rattle.std.specs.Io.KnownBytes.{Consumes, IsAtEnd, Keeps, prepend_known}
-use Rattle.prt_serve.specs.Announcement.{HeadIs, Opens, SaysNoNumber, first_line, said_line, word_of}
-use Rattle.prt_serve.specs.declared.announcement.HeadEnd.TheVariants as ends
-use Rattle.prt_serve.specs.declared.announcement.Saying.{Saying}
-use Rattle.prt_serve.specs.declared.announcement.Saying.TheVariants.{At, Commands}
+use Rattle.prt_serve.specs.ScriptHeader.{HeadIs, Opens, SaysNoNumber, first_line, said_line, word_of}
+use Rattle.prt_serve.specs.declared.script_header.HeadEnd.TheVariants as ends
+use Rattle.prt_serve.specs.declared.script_header.Saying.{Saying}
+use Rattle.prt_serve.specs.declared.script_header.Saying.TheVariants.{At, Commands}
 use Rattle.prt_session.specs.Steps.{HasNoNewline}
 
 -- ---- reading them

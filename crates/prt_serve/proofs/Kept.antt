@@ -12,16 +12,16 @@ use Rattle.prt_refusals.specs.declared.on_refusal.OnRefusal.TheVariants.{GoOn}
 use Rattle.prt_replies.specs.declared.reply.Reply.{Reply}
 use Rattle.prt_replies.specs.declared.reply.Reply.TheVariants as replies
 use Rattle.prt_replies.specs.declared.script_end.ScriptEnd.{ScriptEnd}
-use Rattle.prt_serve.proofs.Files.{together_grows}
+use Rattle.prt_serve.proofs.Scripts.{together_grows}
 use Rattle.prt_serve.specs.Jobs.{ServesEach, ServesJob, ServesKind}
 use Rattle.prt_serve.specs.Kept.{HasAnswered, HasExchanged, HasFollowed, HasMade, HasReplied, HasUpTo, IsInTurn, IsKept, IsNumber, Keeps, Session, Work}
 use Rattle.prt_serve.specs.Lists.{AllBegin, AreReplies, AreTold, IsTold, reply_on, seen_in, taken_by, taken_in}
 use Rattle.prt_serve.specs.Requests.{Event, refused, seen, service_turn, taken, unanswered, unseen}
 use Rattle.prt_serve.specs.Together.{Comes, Follows, Outcome}
-use Rattle.prt_serve.specs.declared.announcement.Announcement.{Announcement}
+use Rattle.prt_serve.specs.declared.script_header.ScriptHeader.{ScriptHeader}
 use Rattle.prt_serve.specs.declared.worker.Job.{Job}
-use Rattle.prt_serve.specs.declared.worker.Kind.{Kind}
-use Rattle.prt_serve.specs.declared.worker.Kind.TheVariants.{InTurn, Together}
+use Rattle.prt_serve.specs.declared.worker.SessionKind.{SessionKind}
+use Rattle.prt_serve.specs.declared.worker.SessionKind.TheVariants.{InTurn, Together}
 use Rattle.prt_serve.specs.declared.worker.Served.{Served}
 use Rattle.prt_service.specs.declared.submit_error.SubmitError.TheVariants as why
 use Rattle.prt_session.specs.Session.{Exchange, session}
@@ -58,29 +58,29 @@ has_exchanged line (x ∷ xs) replies told begin =
     let one = has_replied line (reading x.line) x.mishap (seen_in xs) told.0 (all_begin_left (taken_by x.mishap) (taken_in xs) line begin) in
     (subst (HasReplied line (reading x.line)) (sym replies.0) one, has_exchanged line xs replies.1 told.1 (all_begin_right (taken_by x.mishap) (taken_in xs) line begin))
 
--- ---- an atomic file
+-- ---- an atomic script
 
 has_made : (expected : Option ℕ) (known0 known : Line) (commands : List Command) (came : Outcome) → Comes expected known0 known commands came → HasMade known commands came
 has_made expected known0 known commands (Ok None) comes = tt
 has_made expected known0 known commands (Ok (Some last)) comes = (comes.1.0, comes.1.4, comes.1.2, sym comes.1.1)
 has_made expected known0 known commands (Err reason) comes = tt
 
-has_followed : (refusal : Option Reply) (announced : Announcement) (known0 known : Line) (commands : List Command) (writer0 writer : Option (List ℕ)) (read end : ScriptEnd) (follows : Follows refusal announced known0 known commands writer0 writer read end)
-    → HasFollowed known refusal announced known0 known commands writer0 writer read end follows
-has_followed (Some reply) announced known0 known commands writer0 writer read end follows = tt
-has_followed None announced known0 known commands writer0 writer read end (inl submitted) = has_made announced.number known0 known commands submitted.1.came submitted.1.comes
-has_followed None announced known0 known commands writer0 writer read end (inr short) = tt
+has_followed : (refusal : Option Reply) (header : ScriptHeader) (known0 known : Line) (commands : List Command) (writer0 writer : Option (List ℕ)) (read end : ScriptEnd) (follows : Follows refusal header known0 known commands writer0 writer read end)
+    → HasFollowed known refusal header known0 known commands writer0 writer read end follows
+has_followed (Some reply) header known0 known commands writer0 writer read end follows = tt
+has_followed None header known0 known commands writer0 writer read end (inl submitted) = has_made header.number known0 known commands submitted.1.came submitted.1.comes
+has_followed None header known0 known commands writer0 writer read end (inr short) = tt
 
 -- ---- either
 
-has_answered : (kind : Kind) (known0 known : Line) (reader0 reader writer0 writer : Option (List ℕ)) (end : ScriptEnd) (served : ServesKind kind known0 known reader0 reader writer0 writer end)
+has_answered : (kind : SessionKind) (known0 known : Line) (reader0 reader writer0 writer : Option (List ℕ)) (end : ScriptEnd) (served : ServesKind kind known0 known reader0 reader writer0 writer end)
     → HasAnswered known kind known0 known reader0 reader writer0 writer end served
 has_answered InTurn known0 known reader0 reader writer0 writer end served =
     has_exchanged known (session service_turn known0 served.run.input GoOn served.run.mishaps).exchanges served.shows.replies served.shows.receipts served.shows.taken_known
-has_answered Together known0 known reader0 reader writer0 writer end (inl opens) = has_followed opens.file.read.refusal opens.announced known0 known opens.file.commands opens.file.between writer opens.file.reading end opens.file.follows
+has_answered Together known0 known reader0 reader writer0 writer end (inl opens) = has_followed opens.file.read.refusal opens.header known0 known opens.file.commands opens.file.between writer opens.file.reading end opens.file.follows
 has_answered Together known0 known reader0 reader writer0 writer end (inr fails) = tt
 
-kind_grows : (kind : Kind) (known0 known : Line) (reader0 reader writer0 writer : Option (List ℕ)) (end : ScriptEnd) → ServesKind kind known0 known reader0 reader writer0 writer end → Begins known0 known
+kind_grows : (kind : SessionKind) (known0 known : Line) (reader0 reader writer0 writer : Option (List ℕ)) (end : ScriptEnd) → ServesKind kind known0 known reader0 reader writer0 writer end → Begins known0 known
 kind_grows InTurn known0 known reader0 reader writer0 writer end served = served.shows.grows
 kind_grows Together known0 known reader0 reader writer0 writer end served = together_grows known0 known reader0 reader writer0 writer end served
 
@@ -111,16 +111,16 @@ module _ (line more : Line) (begins : Begins line more) where
   more_made commands (Ok (Some last)) has = more_up_to last commands has
   more_made commands (Err reason) has = tt
 
-  more_followed : (refusal : Option Reply) (announced : Announcement) (known0 known : Line) (commands : List Command) (writer0 writer : Option (List ℕ)) (read end : ScriptEnd) (follows : Follows refusal announced known0 known commands writer0 writer read end)
-      → HasFollowed line refusal announced known0 known commands writer0 writer read end follows → HasFollowed more refusal announced known0 known commands writer0 writer read end follows
-  more_followed (Some reply) announced known0 known commands writer0 writer read end follows has = tt
-  more_followed None announced known0 known commands writer0 writer read end (inl submitted) has = more_made commands submitted.1.came has
-  more_followed None announced known0 known commands writer0 writer read end (inr short) has = tt
+  more_followed : (refusal : Option Reply) (header : ScriptHeader) (known0 known : Line) (commands : List Command) (writer0 writer : Option (List ℕ)) (read end : ScriptEnd) (follows : Follows refusal header known0 known commands writer0 writer read end)
+      → HasFollowed line refusal header known0 known commands writer0 writer read end follows → HasFollowed more refusal header known0 known commands writer0 writer read end follows
+  more_followed (Some reply) header known0 known commands writer0 writer read end follows has = tt
+  more_followed None header known0 known commands writer0 writer read end (inl submitted) has = more_made commands submitted.1.came has
+  more_followed None header known0 known commands writer0 writer read end (inr short) has = tt
 
-  more_answered : (kind : Kind) (known0 known : Line) (reader0 reader writer0 writer : Option (List ℕ)) (end : ScriptEnd) (served : ServesKind kind known0 known reader0 reader writer0 writer end)
+  more_answered : (kind : SessionKind) (known0 known : Line) (reader0 reader writer0 writer : Option (List ℕ)) (end : ScriptEnd) (served : ServesKind kind known0 known reader0 reader writer0 writer end)
       → HasAnswered line kind known0 known reader0 reader writer0 writer end served → HasAnswered more kind known0 known reader0 reader writer0 writer end served
   more_answered InTurn known0 known reader0 reader writer0 writer end served has = more_exchanged (session service_turn known0 served.run.input GoOn served.run.mishaps).exchanges has
-  more_answered Together known0 known reader0 reader writer0 writer end (inl opens) has = more_followed opens.file.read.refusal opens.announced known0 known opens.file.commands opens.file.between writer opens.file.reading end opens.file.follows has
+  more_answered Together known0 known reader0 reader writer0 writer end (inl opens) has = more_followed opens.file.read.refusal opens.header known0 known opens.file.commands opens.file.between writer opens.file.reading end opens.file.follows has
   more_answered Together known0 known reader0 reader writer0 writer end (inr fails) has = tt
 
   more_kept : (s : Session) → IsKept line s → IsKept more s

@@ -3,8 +3,8 @@ use Rattle.std.proofs.Common.{◌≡◌, ◌+◌, ◌<◌, ◌≤◌, ℕ, List,
 use Rattle.std.proofs.KnownBytes.{Consumes-nil, Consumes-trans, Keeps-refl, prepend_known-nil, prepend_known-read}
 use Rattle.std.proofs.lemmas.List.{drop_all, drop_more}
 use Rattle.std.specs.Io.KnownBytes.{Consumes, Keeps, ReadConsumes, prepend_known}
-use Rattle.prt_serve.specs.Announcement.{HasLetGo, Opens, said_line}
-use Rattle.prt_serve.specs.declared.announcement.Saying.{Saying}
+use Rattle.prt_serve.specs.ScriptHeader.{HasDrained, Opens, said_line}
+use Rattle.prt_serve.specs.declared.script_header.Saying.{Saying}
 
 -- once the bytes before are given, a read is one of the reader
 pub read_on : {E : Type 0} (head : List ℕ) (given : ℕ) (old new : Option (List ℕ)) (r : Result ℕ E) (buf : List ℕ) → length head ≤ given → ReadConsumes old new r buf → ReadConsumes (prepend_known (drop given head) old) (prepend_known (drop given head) new) r buf
@@ -24,7 +24,7 @@ front_one (c ∷ bs) b more = refl
 
 -- ---- what is let go
 
-pub none_gone : (reader : Option (List ℕ)) → HasLetGo reader reader
+pub none_gone : (reader : Option (List ℕ)) → HasDrained reader reader
 none_gone reader = ([], Consumes-nil reader)
 
 keeps_all : (a b : Option (List ℕ)) → Keeps a b → Consumes a b []
@@ -32,17 +32,17 @@ keeps_all None b keeps = tt
 keeps_all (Some xs) None keeps = absurd keeps
 keeps_all (Some xs) (Some ys) keeps = sym keeps
 
-pub gone_kept : (a b c : Option (List ℕ)) → HasLetGo a b → Keeps b c → HasLetGo a c
+pub gone_kept : (a b c : Option (List ℕ)) → HasDrained a b → Keeps b c → HasDrained a c
 gone_kept a b c gone keeps = (gone.0 ++ [], Consumes-trans a b c gone.0 [] gone.1 (keeps_all b c keeps))
 
-pub gone_more : (a b c : Option (List ℕ)) (bytes : List ℕ) → HasLetGo a b → Consumes b c bytes → HasLetGo a c
+pub gone_more : (a b c : Option (List ℕ)) (bytes : List ℕ) → HasDrained a b → Consumes b c bytes → HasDrained a c
 gone_more a b c bytes gone read = (gone.0 ++ bytes, Consumes-trans a b c gone.0 bytes gone.1 read)
 
-pub gone_then : (a b c : Option (List ℕ)) → HasLetGo a b → HasLetGo b c → HasLetGo a c
+pub gone_then : (a b c : Option (List ℕ)) → HasDrained a b → HasDrained b c → HasDrained a c
 gone_then a b c first next = (first.0 ++ next.0, Consumes-trans a b c first.0 next.0 first.1 next.1)
 
 -- a line that says a number, or nothing
-pub opened_gone : (saying : Saying) (said : Option ℕ) (reader0 given : Option (List ℕ)) → Opens saying said reader0 given → HasLetGo reader0 given
+pub opened_gone : (saying : Saying) (said : Option ℕ) (reader0 given : Option (List ℕ)) → Opens saying said reader0 given → HasDrained reader0 given
 opened_gone saying (Some number) reader0 given (inl line) = (said_line saying number ++ codes "\n", line)
 opened_gone saying (Some number) reader0 given (inr line) = (said_line saying number, line.0)
 opened_gone saying None reader0 given opens = ([], keeps_all reader0 given opens.0)
@@ -52,5 +52,5 @@ front_gone : (head : List ℕ) (a : Option (List ℕ)) → Consumes (prepend_kno
 front_gone head None = tt
 front_gone head (Some xs) = refl
 
-pub all_gone : (head : List ℕ) (a b left : Option (List ℕ)) → left ≡ prepend_known head a → HasLetGo a b → HasLetGo left b
+pub all_gone : (head : List ℕ) (a b left : Option (List ℕ)) → left ≡ prepend_known head a → HasDrained a b → HasDrained left b
 all_gone head a b left is gone = rw is (head ++ gone.0, Consumes-trans (prepend_known head a) a b head gone.0 (front_gone head a) gone.1)

@@ -6,12 +6,12 @@ use Rattle.prt_replies.specs.declared.script_end.ScriptEnd.{ScriptEnd}
 use Rattle.prt_serve.specs.Serving.{Serves}
 use Rattle.prt_serve.specs.Together.{ServesTogether}
 use Rattle.prt_serve.specs.declared.worker.Job.{Job}
-use Rattle.prt_serve.specs.declared.worker.Kind.{Kind}
-use Rattle.prt_serve.specs.declared.worker.Kind.TheVariants.{InTurn, Together}
+use Rattle.prt_serve.specs.declared.worker.SessionKind.{SessionKind}
+use Rattle.prt_serve.specs.declared.worker.SessionKind.TheVariants.{InTurn, Together}
 use Rattle.prt_serve.specs.declared.worker.Served.{Served}
 
--- a session or an atomic file was served, as the kind says
-abbrev pub ServesKind : Kind → (known0 known : Line) → (reader0 reader writer0 writer : Option (List ℕ)) → ScriptEnd → Type 0
+-- a session or an atomic script was served, as the kind says
+abbrev pub ServesKind : SessionKind → (known0 known : Line) → (reader0 reader writer0 writer : Option (List ℕ)) → ScriptEnd → Type 0
 ServesKind InTurn known0 known reader0 reader writer0 writer end = Serves known0 known reader0 reader writer0 writer end
 ServesKind Together known0 known reader0 reader writer0 writer end = ServesTogether known0 known reader0 reader writer0 writer end
 

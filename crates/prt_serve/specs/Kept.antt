@@ -14,9 +14,9 @@ use Rattle.prt_replies.specs.declared.script_end.ScriptEnd.{ScriptEnd}
 use Rattle.prt_serve.specs.Jobs.{ServesKind}
 use Rattle.prt_serve.specs.Requests.{Event, number_of, service_turn}
 use Rattle.prt_serve.specs.Together.{Follows, Outcome}
-use Rattle.prt_serve.specs.declared.announcement.Announcement.{Announcement}
-use Rattle.prt_serve.specs.declared.worker.Kind.{Kind}
-use Rattle.prt_serve.specs.declared.worker.Kind.TheVariants.{InTurn, Together}
+use Rattle.prt_serve.specs.declared.script_header.ScriptHeader.{ScriptHeader}
+use Rattle.prt_serve.specs.declared.worker.SessionKind.{SessionKind}
+use Rattle.prt_serve.specs.declared.worker.SessionKind.TheVariants.{InTurn, Together}
 use Rattle.prt_service.specs.Service.{EndsWithAll}
 use Rattle.prt_session.specs.Session.{Exchange, session}
 
@@ -46,27 +46,27 @@ abbrev pub HasMade : Line → List Command → Outcome → Type 0
 HasMade line commands (Ok (Some last)) = HasUpTo line last commands
 HasMade line commands came = Unit {0}
 
--- so it is with what followed the reading of a file
-abbrev pub HasFollowed : (line : Line) (refusal : Option Reply) (announced : Announcement) (known0 known : Line) (commands : List Command)
-    (writer0 writer : Option (List ℕ)) (read end : ScriptEnd) → Follows refusal announced known0 known commands writer0 writer read end → Type 0
-HasFollowed line (Some reply) announced known0 known commands writer0 writer read end follows = Unit {0}
-HasFollowed line None announced known0 known commands writer0 writer read end (inl submitted) = HasMade line commands submitted.1.came
-HasFollowed line None announced known0 known commands writer0 writer read end (inr short) = Unit {0}
+-- so it is with what followed the reading of a script
+abbrev pub HasFollowed : (line : Line) (refusal : Option Reply) (header : ScriptHeader) (known0 known : Line) (commands : List Command)
+    (writer0 writer : Option (List ℕ)) (read end : ScriptEnd) → Follows refusal header known0 known commands writer0 writer read end → Type 0
+HasFollowed line (Some reply) header known0 known commands writer0 writer read end follows = Unit {0}
+HasFollowed line None header known0 known commands writer0 writer read end (inl submitted) = HasMade line commands submitted.1.came
+HasFollowed line None header known0 known commands writer0 writer read end (inr short) = Unit {0}
 
 -- ---- sessions
 
--- the list has what was replied `ok N` in a session of this kind, or to a file, which was served so
-abbrev pub HasAnswered : (line : Line) (kind : Kind) (known0 known : Line) (reader0 reader writer0 writer : Option (List ℕ))
+-- the list has what was replied `ok N` in a session of this kind, or to a script, which was served so
+abbrev pub HasAnswered : (line : Line) (kind : SessionKind) (known0 known : Line) (reader0 reader writer0 writer : Option (List ℕ))
     (end : ScriptEnd) → ServesKind kind known0 known reader0 reader writer0 writer end → Type 0
 HasAnswered line InTurn known0 known reader0 reader writer0 writer end served =
     HasExchanged line (session service_turn known0 served.run.input GoOn served.run.mishaps).exchanges
 HasAnswered line Together known0 known reader0 reader writer0 writer end (inl opens) =
-    HasFollowed line opens.file.read.refusal opens.announced known0 known opens.file.commands opens.file.between writer opens.file.reading end opens.file.follows
+    HasFollowed line opens.file.read.refusal opens.header known0 known opens.file.commands opens.file.between writer opens.file.reading end opens.file.follows
 HasAnswered line Together known0 known reader0 reader writer0 writer end (inr fails) = Unit {0}
 
 -- A session: its kind, what was known before it and after, what its reader had and what its writer had got, and how it ended.
 pub record Session : Type 0 where
-  pub kind : Kind
+  pub kind : SessionKind
   pub known0 : Line
   pub known : Line
   pub reader0 : Option (List ℕ)

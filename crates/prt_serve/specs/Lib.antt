@@ -3,7 +3,7 @@ pub mod Requests
 pub mod Lists
 pub mod Growing
 pub mod Serving
-pub mod Announcement
+pub mod ScriptHeader
 pub mod Resumed
 pub mod Together
 pub mod Jobs

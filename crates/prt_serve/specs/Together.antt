@@ -1,4 +1,4 @@
--- What serving an atomic file does: its commands are made together, at the number that was expected, or none of them is.
+-- What serving an atomic script does: its commands are made together, at the number that was expected, or none of them is.
 use Rattle.std.specs.Prelude.{◌≡◌, ◌-◌, ◌≤◌, ◌<◌, ◌^◌, ◌⊎◌, ℕ, Bool, true, false, List, [], ◌++◌, Option, Some, None, IfSome, is_some, Result, Ok}
 use Rattle.std.specs.Prelude.{Err, codes, if◌then◌else◌, length}
 use Rattle.prt_command.specs.declared.request.Command.{Command}
@@ -11,9 +11,9 @@ use Rattle.prt_replies.specs.Written.{Written}
 use Rattle.prt_replies.specs.declared.reply.Reply.{Reply}
 use Rattle.prt_replies.specs.declared.reply.Reply.TheVariants.{Refused}
 use Rattle.prt_replies.specs.declared.script_end.ScriptEnd.{ScriptEnd}
-use Rattle.prt_serve.specs.Announcement.{AreAnnounced, HasLetGo, at_line, is_as_many}
+use Rattle.prt_serve.specs.ScriptHeader.{HasHeader, HasDrained, at_line, is_as_many}
 use Rattle.prt_serve.specs.Requests.{number_of}
-use Rattle.prt_serve.specs.declared.announcement.Announcement.{Announcement}
+use Rattle.prt_serve.specs.declared.script_header.ScriptHeader.{ScriptHeader}
 use Rattle.prt_service.specs.Service.{EndsWithAll, IsAfter, IsServiceRefusal, IsWhyNotMade}
 use Rattle.prt_service.specs.declared.submit_error.SubmitError.{SubmitError}
 use Rattle.prt_service.specs.declared.submit_error.SubmitError.TheVariants as why
@@ -22,7 +22,7 @@ use Rattle.prt_session.specs.Steps.{AreSubmittable}
 
 -- ---- what comes of the commands
 
--- what came of a file's commands: the number of the last, nothing for none, or why they were not made
+-- what came of a script's commands: the number of the last, nothing for none, or why they were not made
 abbrev pub Outcome : Type 0
 Outcome = Result (Option ℕ) SubmitError
 
@@ -70,7 +70,7 @@ pub record ToldIs (count : ℕ) (came : Outcome) (writer0 writer : Option (List 
   pub refused_is : end.refused ≡ outcome_refused came
   pub fault_is : end.fault ≡ (if whole then outcome_fault came else Some WriteFault)
 
--- ---- a file
+-- ---- a script
 
 -- Nothing was refused, and the commands were submitted, if there are any.
 pub record IsSubmitted (expected : Option ℕ) (known0 known : Line) (commands : List Command) (writer0 writer : Option (List ℕ)) (end : ScriptEnd) : Type 0 where
@@ -78,44 +78,44 @@ pub record IsSubmitted (expected : Option ℕ) (known0 known : Line) (commands :
   pub comes : Comes expected known0 known commands came
   pub told : ToldIs (length commands) came writer0 writer end
 
--- A number of commands was announced, and the file is cut off: none of them is made, as if its reading had failed.
-pub record IsCutShort (announced : Announcement) (known0 known : Line) (writer0 writer : Option (List ℕ)) (end : ScriptEnd) : Type 0 where
-  pub counted : is_some announced.count ≡ true
+-- The header has a number of commands, and the script is cut off: none of them is made, as if its reading had failed.
+pub record IsCutShort (header : ScriptHeader) (known0 known : Line) (writer0 writer : Option (List ℕ)) (end : ScriptEnd) : Type 0 where
+  pub counted : is_some header.count ≡ true
   pub same : known ≡ known0
   pub told : ToldIs 0 (Err (why.Refused ReadFault)) writer0 writer end
 
--- what follows the reading: nothing after a refusal; and else the submission, if as many commands came as were announced
-abbrev pub Follows : Option Reply → Announcement → (known0 known : Line) → List Command → (writer0 writer : Option (List ℕ)) →
+-- what follows the reading: nothing after a refusal; and else the submission, if as many commands came as the header says
+abbrev pub Follows : Option Reply → ScriptHeader → (known0 known : Line) → List Command → (writer0 writer : Option (List ℕ)) →
     (reading end : ScriptEnd) → Type 0
-Follows (Some refused) announced known0 known commands writer0 writer reading end = (known ≡ known0) × (writer ≡ writer0) × (end ≡ reading)
-Follows None announced known0 known commands writer0 writer reading end =
-    ((is_as_many announced.count (length commands) ≡ true) × IsSubmitted announced.number known0 known commands writer0 writer end)
-    ⊎ IsCutShort announced known0 known writer0 writer end
+Follows (Some refused) header known0 known commands writer0 writer reading end = (known ≡ known0) × (writer ≡ writer0) × (end ≡ reading)
+Follows None header known0 known commands writer0 writer reading end =
+    ((is_as_many header.count (length commands) ≡ true) × IsSubmitted header.number known0 known commands writer0 writer end)
+    ⊎ IsCutShort header known0 known writer0 writer end
 
 -- The lines were read, up to the first refusal, which is all that was written then; or there was none, and the commands of all lines were submitted together.
-pub record FileIs (announced : Announcement) (known0 known : Line) (reader0 reader writer0 writer : Option (List ℕ)) (end : ScriptEnd) : Type 0 where
+pub record ScriptIs (header : ScriptHeader) (known0 known : Line) (reader0 reader writer0 writer : Option (List ℕ)) (end : ScriptEnd) : Type 0 where
   pub commands : List Command
   pub submittable : AreSubmittable commands
   pub between : Option (List ℕ)
   pub reading : ScriptEnd
   pub read : ReadIs commands reader0 reader writer0 between reading
-  pub follows : Follows read.refusal announced known0 known commands between writer reading end
+  pub follows : Follows read.refusal header known0 known commands between writer reading end
 
 -- ---- a connection
 
--- The lines before the file were read, if there are any, and then the file. Of what it left a part was let go.
+-- The header was read, if there is one, and then the script. Of what it left a part was discarded.
 pub record OpensFile (known0 known : Line) (reader0 reader writer0 writer : Option (List ℕ)) (end : ScriptEnd) : Type 0 where
-  pub announced : Announcement
+  pub header : ScriptHeader
   pub given : Option (List ℕ)
-  pub opens : AreAnnounced announced reader0 given
+  pub opens : HasHeader header reader0 given
   pub left : Option (List ℕ)
-  pub file : FileIs announced known0 known given left writer0 writer end
-  pub goes : HasLetGo left reader
+  pub file : ScriptIs header known0 known given left writer0 writer end
+  pub goes : HasDrained left reader
 
--- The reader failed before the file's first line was over, and that is the refusal.
+-- The reader failed before the script's first line was over, and that is the refusal.
 pub record FailsToOpen (known0 known : Line) (reader0 reader writer0 writer : Option (List ℕ)) (end : ScriptEnd) : Type 0 where
   pub same : known ≡ known0
-  pub read : HasLetGo reader0 reader
+  pub read : HasDrained reader0 reader
   pub told : ToldIs 0 (Err (why.Refused ReadFault)) writer0 writer end
 
 -- a connection was served whose commands are made together

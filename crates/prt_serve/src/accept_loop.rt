@@ -6,7 +6,7 @@ use crate::accepting::{AcceptResult, accept_one};
 use crate::gate::Gate;
 use crate::room::Arrival;
 use crate::turnstile::Turnstile;
-use crate::worker::Kind;
+use crate::worker::SessionKind;
 use crossbeam_channel::Sender;
 use std::net::OpenListener;
 use std::sync::{Mutex, Wait};
@@ -15,10 +15,10 @@ use std::time::Clock;
 
 /// A listener for sessions.
 #[derive(Drop)]
-pub struct Entrance<L: Drop> {
+pub struct SessionListener<L: Drop> {
     pub listener: L,
     /// How the sessions that come by it execute their lines.
-    pub kind: Kind,
+    pub kind: SessionKind,
 }
 
 /// How accepting ended.
@@ -49,16 +49,16 @@ impl Accepting {
 fn accept_each<H: Wait + Clock, G: Gate, L: OpenListener + Drop>(
     rt: &H,
     gate: &G,
-    entrance: &Entrance<L>,
+    from: &SessionListener<L>,
     arrivals: &Sender<Arrival<L::Stream>>,
     turnstile: &Turnstile,
 ) -> Accepting {
-    let kind = entrance.kind;
+    let kind = from.kind;
     for _ in rt.forever() {
         if turnstile.is_shut() {
             return Accepting::Ended;
         }
-        let (stream, client) = match accept_one(rt, gate, &entrance.listener) {
+        let (stream, client) = match accept_one(rt, gate, &from.listener) {
             AcceptResult::Stream(stream, client) => (stream, client),
             AcceptResult::Nobody => continue,
             AcceptResult::Never => return Accepting::Failed,
@@ -90,11 +90,11 @@ fn accept_each<H: Wait + Clock, G: Gate, L: OpenListener + Drop>(
 pub fn accept<H: Wait + Clock, G: Gate, L: OpenListener + Drop>(
     rt: &H,
     gate: &G,
-    entrance: &Entrance<L>,
+    from: &SessionListener<L>,
     arrivals: Sender<Arrival<L::Stream>>,
     turnstile: &Turnstile,
 ) -> Accepting {
-    let accepting = accept_each(rt, gate, entrance, &arrivals, turnstile);
+    let accepting = accept_each(rt, gate, from, &arrivals, turnstile);
     drop(arrivals);
     turnstile.shut();
     accepting
@@ -105,7 +105,7 @@ pub fn accept<H: Wait + Clock, G: Gate, L: OpenListener + Drop>(
 struct Doorkeeper<'a, H: Wait + Clock, G: Gate, L: OpenListener + Drop> {
     rt: &'a H,
     gate: &'a G,
-    entrance: &'a Entrance<L>,
+    from: &'a SessionListener<L>,
     arrivals: Sender<Arrival<L::Stream>>,
     turnstile: &'a Turnstile,
     /// Where it notes how it ended.
@@ -115,13 +115,7 @@ struct Doorkeeper<'a, H: Wait + Clock, G: Gate, L: OpenListener + Drop> {
 impl<'a, H: Wait + Clock, G: Gate, L: OpenListener + Drop> Doorkeeper<'a, H, G, L> {
     /// Accepts until it or another ends.
     fn serve(self) {
-        let accepting = accept(
-            self.rt,
-            self.gate,
-            self.entrance,
-            self.arrivals,
-            self.turnstile,
-        );
+        let accepting = accept(self.rt, self.gate, self.from, self.arrivals, self.turnstile);
         note_end(self.rt, self.ended, accepting);
     }
 }
@@ -140,20 +134,20 @@ pub(crate) fn accept_all<
 >(
     rt: &H,
     gate: &G,
-    entrances: &[Entrance<L>],
+    listeners: &[SessionListener<L>],
     arrivals: Sender<Arrival<L::Stream>>,
     sessions: u64,
 ) -> Accepting {
     let (turnstile, ended) = (Turnstile::new(sessions), Mutex::new(Accepting::Ended));
     let (turnstile, noted) = (&turnstile, &ended);
     thread::scope(thread::scope_env(), rt, |scope| {
-        for entrance in entrances {
+        for from in listeners {
             let is_started = match arrivals.clone() {
                 Ok(arrivals) => {
                     let doorkeeper = Doorkeeper {
                         rt,
                         gate,
-                        entrance,
+                        from,
                         arrivals,
                         turnstile,
                         ended: noted,

@@ -9,7 +9,7 @@ use std::time::{Clock, Duration};
 /// How many milliseconds accepting pauses after an error that may pass.
 const PAUSE: u64 = 100;
 
-/// The system's errors that no later `accept` is without: the descriptor is none (`EBADF`), is no socket (`ENOTSOCK`), isn't
+/// The system's errors that every later `accept` returns too: the descriptor is none (`EBADF`), is no socket (`ENOTSOCK`), isn't
 /// listening (`EINVAL`), or is of another kind (`EFAULT`, `EOPNOTSUPP`).
 const PERMANENT: [i32; 5] = [9, 14, 22, 88, 95];
 

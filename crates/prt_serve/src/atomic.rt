@@ -1,16 +1,16 @@
-//! An atomic file over a service: its commands are made together, in one transaction, or not at all.
+//! An atomic script over a service: its commands are made together, in one transaction, or not at all.
 ghost use Rattle.std.specs.Prelude.{◌≡◌, Err, None};
 ghost use Rattle.prt_published.specs.Line.{Begins};
 ghost use Rattle.prt_replies.specs.Written.{Written};
-ghost use Rattle.prt_serve.specs.Announcement.{HasLetGo};
+ghost use Rattle.prt_serve.specs.ScriptHeader.{HasDrained};
 ghost use Rattle.prt_serve.specs.Resumed.{resumed_remaining};
-ghost use Rattle.prt_serve.specs.Together.{Comes, FailsToOpen, FileIs, FitsNumbers, ServesTogether, ToldIs, outcome_fault, outcome_refused, outcome_text};
+ghost use Rattle.prt_serve.specs.Together.{Comes, FailsToOpen, ScriptIs, FitsNumbers, ServesTogether, ToldIs, outcome_fault, outcome_refused, outcome_text};
 ghost use Rattle.prt_session.specs.Steps.{AreSubmittable};
 
-use crate::announcement::{Announcement, AnnouncementError, at_text, read_announcement};
 use crate::context::{ServiceContext, Serving};
 use crate::gate::Gate;
 use crate::resumed::Resumed;
+use crate::script_header::{HeaderError, ScriptHeader, at_text, read_header};
 use prt_command::Command;
 use prt_replies::{write_bytes, write_reply};
 use prt_service::{Looker, SubmitError};
@@ -20,24 +20,24 @@ use prt_session::{
 use std::io::{Read, Write};
 use std::net::SocketAddr;
 
-/// How many bytes a read takes that are let go.
+/// How many bytes are discarded at a time.
 const BLOCK: usize = 1024;
 
-/// How many of these are let go at most: 64 MiB.
+/// How many of these blocks are discarded at most: 64 MiB.
 const MOST_BLOCKS: usize = 65_536;
 
-/// A file that was served.
+/// A script that was served.
 #[derive(Drop)]
-pub struct FileServed<R: Read + Drop> {
+pub struct ScriptServed<R: Read + Drop> {
     /// How it ended: with a refusal or a fault, or well.
     pub end: ScriptEnd,
     /// What its lines were read from.
     pub reader: R,
 }
 
-/// The gate, as the observer of a file.
+/// The gate, as the observer of a script.
 #[derive(Drop)]
-struct FileGate<'a, G: Gate> {
+struct ScriptGate<'a, G: Gate> {
     gate: &'a G,
     session: u64,
     /// Where the client is.
@@ -46,7 +46,7 @@ struct FileGate<'a, G: Gate> {
     line: u64,
 }
 
-impl<'a, G: Gate> Observer for FileGate<'a, G> {
+impl<'a, G: Gate> Observer for ScriptGate<'a, G> {
     fn before(&mut self, line: u64) {
         self.line = line;
         self.gate.before(self.session, line);
@@ -58,7 +58,7 @@ impl<'a, G: Gate> Observer for FileGate<'a, G> {
     }
 }
 
-impl<'a, G: Gate> FileGate<'a, G> {
+impl<'a, G: Gate> ScriptGate<'a, G> {
     /// Calls the gate for each of the commands, which were made with numbers up to this one.
     fn made(&self, last: u64, commands: &[Command]) {
         let mut number = last.saturating_sub(commands.len() as u64);
@@ -76,12 +76,12 @@ impl<'a, G: Gate> FileGate<'a, G> {
     }
 }
 
-/// Has the commands of a file made, if there are any, at the expected number, if there is one; the looker learns their
+/// Has the commands of a script made, if there are any, at the expected number, if there is one; the looker learns their
 /// receipt. Returns the number of the last. `None` if there is no command.
 ///
 /// # Errors
 ///
-/// Those of `Service::submit_all_at`: no command is made. `Moved` comes for a file without commands too.
+/// Those of `Service::submit_all_at`: no command is made. `Moved` comes for a script without commands too.
 fn make<C: Serving>(
     context: &ServiceContext<'_, C>,
     looker: &mut Looker,
@@ -135,7 +135,7 @@ fn end_of(came: &Result<Option<u64>, SubmitError>) -> ScriptEnd
     }
 }
 
-/// Writes what came of so many commands: their numbers, why they were refused, or the number that was met; returns whether
+/// Writes what came of `count` commands: their numbers, why they were refused, or the number that was met; returns whether
 /// all of it went well.
 fn write_lines<W: Write>(
     writer: &mut W,
@@ -153,7 +153,7 @@ fn write_lines<W: Write>(
     }
 }
 
-/// Writes the same, and returns how the file ended.
+/// Writes the same, and returns how the script ended.
 fn write_outcome<W: Write>(
     writer: &mut W,
     count: usize,
@@ -169,8 +169,8 @@ fn write_outcome<W: Write>(
     end.with_write_fault()
 }
 
-/// Refuses a file of which nothing is made, since not all of it may have come.
-fn refuse<G: Gate, W: Write>(gate: &FileGate<'_, G>, writer: &mut W, reason: Refusal) -> ScriptEnd
+/// Refuses a script of which nothing is made, since not all of it may have come.
+fn refuse<G: Gate, W: Write>(gate: &ScriptGate<'_, G>, writer: &mut W, reason: Refusal) -> ScriptEnd
     ensures { ToldIs 0 (Err (SubmitError.Refused reason)) (W.contents writer.old) (W.contents writer.new) result }
 {
     let end = write_outcome(writer, 0, &Err(SubmitError::Refused(reason)));
@@ -178,29 +178,29 @@ fn refuse<G: Gate, W: Write>(gate: &FileGate<'_, G>, writer: &mut W, reason: Ref
     end
 }
 
-/// Serves a file of which this was announced.
-fn serve_file<C: Serving, R: Read + Drop, W: Write>(
+/// Serves a script after its header.
+fn serve_script<C: Serving, R: Read + Drop, W: Write>(
     context: &ServiceContext<'_, C>,
     looker: &mut Looker,
-    announced: Announcement,
-    mut gate: FileGate<'_, C::Gate>,
+    header: ScriptHeader,
+    mut gate: ScriptGate<'_, C::Gate>,
     reader: &mut Resumed<R>,
     writer: &mut W,
 ) -> ScriptEnd
     requires of { (looker.old.known.book ≡ C.Brand.book) × (looker.old.known.base ≡ C.Brand.base) }
     ensures of { (looker.new.known.book ≡ C.Brand.book) × (looker.new.known.base ≡ C.Brand.base) }
     ensures held { (looker.new.held ≡ looker.old.held) × (looker.new.announced ≡ looker.old.announced) }
-    ensures served { FileIs announced looker.old.known looker.new.known (resumed_remaining R.remaining reader.old) (resumed_remaining R.remaining reader.new)
+    ensures served { ScriptIs header looker.old.known looker.new.known (resumed_remaining R.remaining reader.old) (resumed_remaining R.remaining reader.new)
         (W.contents writer.old) (W.contents writer.new) result }
 {
     let CommandsRead { end, commands } = collect_commands(context.alloc, reader, writer, &mut gate);
     if end.refused || end.fault.is_some() {
         return end;
     }
-    if announced.is_cut_off(commands.len(), reader.is_ended()) {
+    if header.is_cut_off(commands.len(), reader.ends_with_newline()) {
         return refuse(&gate, writer, Refusal::ReadFault);
     }
-    let came = make(context, looker, announced.number, commands.as_slice());
+    let came = make(context, looker, header.number, commands.as_slice());
     let end = write_outcome(writer, commands.len(), &came);
     match came {
         Ok(Some(last)) => gate.made(last, commands.as_slice()),
@@ -210,9 +210,9 @@ fn serve_file<C: Serving, R: Read + Drop, W: Write>(
     end
 }
 
-/// Reads so many blocks at most, up to the end or a fault, and lets them go.
-fn let_go<R: Read>(reader: &mut R, blocks: usize)
-    ensures { HasLetGo (R.remaining reader.old) (R.remaining reader.new) }
+/// Reads and discards the input, up to its end, a fault or this number of blocks.
+fn drain<R: Read>(reader: &mut R, blocks: usize)
+    ensures { HasDrained (R.remaining reader.old) (R.remaining reader.new) }
 {
     let mut block = [0u8; BLOCK];
     for _ in 0..blocks {
@@ -223,8 +223,8 @@ fn let_go<R: Read>(reader: &mut R, blocks: usize)
     }
 }
 
-/// Refuses an atomic file that is served too late, with `ReadFault`: nothing of it is made. Its input is read up to 64 MiB,
-/// and let go; it counts as one line.
+/// Refuses an atomic script that is served too late, with `ReadFault`: nothing of it is made. Its input is read up to 64 MiB,
+/// and discarded; it counts as one line.
 pub(crate) fn turn_away<C: Serving, R: Read + Drop, W: Write>(
     context: &ServiceContext<'_, C>,
     looker: &mut Looker,
@@ -232,7 +232,7 @@ pub(crate) fn turn_away<C: Serving, R: Read + Drop, W: Write>(
     client: SocketAddr,
     mut reader: R,
     writer: &mut W,
-) -> FileServed<R>
+) -> ScriptServed<R>
     requires { (looker.old.known.book ≡ C.Brand.book) × (looker.old.known.base ≡ C.Brand.base) }
     ensures of { (looker.new.known.book ≡ C.Brand.book) × (looker.new.known.base ≡ C.Brand.base) }
     ensures offline { (looker.new.held ≡ None) × (looker.new.announced ≡ None) }
@@ -240,7 +240,7 @@ pub(crate) fn turn_away<C: Serving, R: Read + Drop, W: Write>(
         (W.contents writer.old) (W.contents writer.new) result.end }
 {
     looker.rest(context.rt, context.service);
-    let mut observer = FileGate {
+    let mut observer = ScriptGate {
         gate: context.gate,
         session,
         client,
@@ -249,25 +249,26 @@ pub(crate) fn turn_away<C: Serving, R: Read + Drop, W: Write>(
     observer.before(1);
     let end = refuse(&observer, writer, Refusal::ReadFault);
     // A connection that is closed before all its bytes are read may lose its reply.
-    let_go(&mut reader, MOST_BLOCKS);
-    FileServed { end, reader }
+    drain(&mut reader, MOST_BLOCKS);
+    ScriptServed { end, reader }
 }
 
-/// Serves one atomic file: reads its lines to the end, and then makes their commands together, or none of them.
+/// Serves one atomic script: reads its lines to the end, and then makes their commands together, or none of them.
 ///
 /// The lines are read as `collect_commands` says, up to the first that is refused. The commands are made as
 /// `Service::submit_all_at` says, in one transaction and one published version. The first refusal, of a line or of the
 /// commands, is all that is written; if there is none, `ok N` is written for each command.
 ///
-/// Two lines may come before the file's first, in this order, with numbers as `ok N` writes them:
+/// Two lines may come before the script's first, in this order, with numbers as `ok N` writes them:
 /// - `at N`: if the published version has another number M then, no command is made, and `at M` is all that is written. So
 ///   it is without commands too.
-/// - `commands K`: if the file has another number of commands, or its last line has no newline, none is made, and the
-///   refusal is `ReadFault`. A client that is stopped in mid-file has ended its input too.
+/// - `commands K`: if the script has another number of commands, or its last line has no newline, none is made, and the
+///   refusal is `ReadFault`. A client that is stopped halfway has ended its input too.
 ///
-/// The looker learns the receipt, and is offline at the end. The gate is called round each line of the file, and then
-/// for each command that was made, or once more if they are refused, with the number of the last line. A file that fails
-/// before its first line is over counts as one line. After a refusal the rest of the input is read, up to 64 MiB, and let go.
+/// The looker learns the receipt, and is offline at the end. The gate is called round each line of the script, and then
+/// for each command that was made, or once more if they are refused, with the number of the last line. A script that
+/// fails before its first line is over counts as one line. After a refusal the rest of the input is read, up to 64 MiB, and
+/// discarded.
 pub fn serve_atomic<C: Serving, R: Read + Drop, W: Write>(
     context: &ServiceContext<'_, C>,
     looker: &mut Looker,
@@ -275,7 +276,7 @@ pub fn serve_atomic<C: Serving, R: Read + Drop, W: Write>(
     client: SocketAddr,
     reader: R,
     writer: &mut W,
-) -> FileServed<R>
+) -> ScriptServed<R>
     requires { (looker.old.known.book ≡ C.Brand.book) × (looker.old.known.base ≡ C.Brand.base) }
     ensures of { (looker.new.known.book ≡ C.Brand.book) × (looker.new.known.base ≡ C.Brand.base) }
     ensures offline { (looker.new.held ≡ None) × (looker.new.announced ≡ None) }
@@ -284,23 +285,23 @@ pub fn serve_atomic<C: Serving, R: Read + Drop, W: Write>(
         (W.contents writer.old) (W.contents writer.new) result.end }
 {
     looker.rest(context.rt, context.service);
-    let mut observer = FileGate {
+    let mut observer = ScriptGate {
         gate: context.gate,
         session,
         client,
         line: 0,
     };
-    let (announced, mut file) = match read_announcement(reader) {
+    let (header, mut file) = match read_header(reader) {
         Ok(opened) => opened,
-        Err(AnnouncementError { reason, reader }) => {
+        Err(HeaderError { reason, reader }) => {
             observer.before(1);
             let end = refuse(&observer, writer, reason);
-            return FileServed { end, reader };
+            return ScriptServed { end, reader };
         }
     };
-    let end = serve_file(context, looker, announced, observer, &mut file, writer);
+    let end = serve_script(context, looker, header, observer, &mut file, writer);
     let mut reader = file.into_reader().into_reader();
     // A connection that is closed before all its bytes are read may lose its reply.
-    let_go(&mut reader, if end.refused { MOST_BLOCKS } else { 0 });
-    FileServed { end, reader }
+    drain(&mut reader, if end.refused { MOST_BLOCKS } else { 0 });
+    ScriptServed { end, reader }
 }

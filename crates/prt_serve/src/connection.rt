@@ -3,7 +3,7 @@ ghost use Rattle.std.specs.Prelude.{◌≡◌, ◌-◌, IfOk, length, true};
 ghost use Rattle.std.specs.Io.Buffered.{reader_remaining, writer_buffer, writer_capacity, writer_contents};
 ghost use Rattle.prt_serve.specs.Blocks.{BeginsWithLine};
 
-use crate::worker::Kind;
+use crate::worker::SessionKind;
 use std::alloc::Global;
 use std::io::{self, BufReader, BufWriter, ErrorKind, Read, Write};
 use std::sync::Arc;
@@ -71,8 +71,8 @@ impl Pipeline {
 #[derive(Drop)]
 pub struct Lines<T: Read + Drop> {
     blocks: BufReader<T>,
-    /// A line of an atomic file gets no reply of its own, so no flush waits for it.
-    kind: Kind,
+    /// A line of an atomic script gets no reply of its own, so no flush waits for it.
+    kind: SessionKind,
     pipeline: Arc<Pipeline>,
     /// How the last read failed, if it did.
     fault: Option<ErrorKind>,
@@ -99,7 +99,7 @@ pub fn ends_over<T: Read + Write + Drop>(
     alloc: Global,
     from: T,
     to: T,
-    kind: Kind,
+    kind: SessionKind,
 ) -> io::Result<Ends<T>>
     ensures from { IfOk result (λ ends. reader_remaining T.remaining ends.lines.blocks ≡ T.remaining from) }
     ensures to { IfOk result (λ ends. writer_contents T.contents ends.replies.blocks ≡ T.contents to) }
@@ -126,7 +126,7 @@ pub fn ends_over<T: Read + Write + Drop>(
 impl<T: Read + Drop> Lines<T> {
     /// Notes what comes after these bytes, which were read.
     fn note(&self, bytes: &[u8]) {
-        if let Kind::Together = self.kind {
+        if let SessionKind::Together = self.kind {
             return;
         }
         let block = self.blocks.buffer();

@@ -1,7 +1,7 @@
 //! The loop that accepts connections of a feed, and the threads that feed them.
 ghost use Rattle.std.specs.Prelude.{◌≡◌, ◌≢◌, None, vec_len};
 
-use crate::accept_loop::{Accepting, Entrance};
+use crate::accept_loop::{Accepting, SessionListener};
 use crate::accepting::{AcceptResult, accept_one};
 use crate::context::{ServiceContext, Serving, SharedServing};
 use crate::feed::serve_feed;
@@ -176,7 +176,7 @@ pub fn serve_and_feed<
     L: OpenListener<Stream = T> + Drop + Sync,
 >(
     context: &ServiceContext<'_, C>,
-    entrances: &[Entrance<L>],
+    listeners: &[SessionListener<L>],
     limits: Limits,
     feeds: &[L],
 ) -> Worked<C::Brand>
@@ -189,7 +189,7 @@ pub fn serve_and_feed<
         || feed_all(context, feeds, &is_ended),
         // The prover keeps what a closure ensures only if the closure owns its context.
         move || {
-            let worked = serve_sessions(&own, entrances, limits);
+            let worked = serve_sessions(&own, listeners, limits);
             is_over.store(true, Ordering::SeqCst);
             own.service.end_following(own.rt);
             worked

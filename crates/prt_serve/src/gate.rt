@@ -25,7 +25,7 @@ pub trait Gate {
     /// 0.0.0.0:0.
     fn after(&self, session: u64, client: &SocketAddr, line: u64, text: &[u8], reply: &Reply);
 
-    /// Comes once a command of an atomic file was made, with its number, after the client was answered.
+    /// Comes once a command of an atomic script was made, with its number, after the client was answered.
     fn made(&self, _session: u64, _client: &SocketAddr, _number: u64, _command: &Command) {}
 
     /// Comes when a worker takes a session, before its first line.

@@ -1,21 +1,21 @@
-//! Sessions and atomic files over a service that others share, and the workers that serve them.
+//! Sessions and atomic scripts over a service that others share, and the workers that serve them.
 #![tactic(auto)]
 
 mod accept_loop;
 mod accepting;
-mod announcement;
 mod atomic;
 mod connection;
 mod context;
-mod entrances;
 mod feed;
 mod feeding;
 mod gate;
 mod idle;
 pub mod laws;
+mod listeners;
 mod places;
 mod resumed;
 mod room;
+mod script_header;
 mod session;
 mod shift;
 mod status_clients;
@@ -24,14 +24,14 @@ mod turnstile;
 mod watch;
 mod worker;
 
-pub use accept_loop::{Accepting, Entrance, accept};
-pub use atomic::{FileServed, serve_atomic};
+pub use accept_loop::{Accepting, SessionListener, accept};
+pub use atomic::{ScriptServed, serve_atomic};
 pub use connection::{Ends, Lines, Pipeline, Replies, ends_over};
 pub use context::{ServiceContext, Serving, ServingOf, SharedServing};
-pub use entrances::{Entrances, serve_entrances};
 pub use feed::{Fed, serve_feed};
 pub use feeding::serve_and_feed;
 pub use gate::{Gate, OpenGate, Queued};
+pub use listeners::{Listeners, serve_listeners};
 pub use places::Places;
 pub use prt_replies::{Reply, ScriptEnd};
 pub use prt_service::{Alter, Command, Known, Looker, Refusal, Service, ServiceBrand, Unfollowed};
@@ -40,4 +40,4 @@ pub use session::serve_session;
 pub use shift::Shift;
 pub use threads::{Limits, ServeEnd, Worked, serve_sessions};
 pub use turnstile::Turnstile;
-pub use worker::{Job, Kind, Served};
+pub use worker::{Job, Served, SessionKind};

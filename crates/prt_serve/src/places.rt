@@ -14,7 +14,7 @@ pub(crate) struct Place<'a> {
 }
 
 impl Places {
-    /// Makes so many, all of them free.
+    /// Makes `count` places, all of them free.
     pub fn new(count: u64) -> Places {
         Places {
             free: Mutex::new(count),

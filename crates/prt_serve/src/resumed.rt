@@ -3,7 +3,7 @@ ghost use Rattle.std.specs.Prelude.{◌≡◌};
 ghost use Rattle.std.specs.Io.KnownBytes.{prepend_known};
 ghost use Rattle.prt_serve.specs.Resumed.{resumed_remaining, unread_head};
 
-use crate::announcement::LONGEST_HEAD;
+use crate::script_header::LONGEST_HEAD;
 use arrayvec::ArrayVec;
 use std::io::{self, Read};
 
@@ -14,7 +14,7 @@ pub(crate) struct Resumed<R: Read + Drop> {
     /// How many of those were given.
     given: usize,
     /// Whether the last byte that was given is a newline, if any was.
-    is_ended: bool,
+    ends_with_newline: bool,
     reader: R,
 }
 
@@ -34,14 +34,14 @@ impl<R: Read + Drop> Resumed<R> {
         Resumed {
             head,
             given: 0,
-            is_ended: true,
+            ends_with_newline: true,
             reader,
         }
     }
 
     /// Returns whether the last byte that was read is a newline. If none was read, it is so too.
-    pub(crate) fn is_ended(&self) -> bool {
-        self.is_ended
+    pub(crate) fn ends_with_newline(&self) -> bool {
+        self.ends_with_newline
     }
 
     /// Returns the reader. Bytes before its own that were not given are let go.
@@ -60,7 +60,7 @@ impl<R: Read + Drop> Read for Resumed<R> {
     fn read(&mut self, bytes: &mut [u8]) -> io::Result<usize> {
         if self.given >= self.head.len() {
             let read = self.reader.read(bytes);
-            self.is_ended = ends_line(&read, bytes, self.is_ended);
+            self.ends_with_newline = ends_line(&read, bytes, self.ends_with_newline);
             return read;
         }
         if bytes.is_empty() {
@@ -68,7 +68,7 @@ impl<R: Read + Drop> Read for Resumed<R> {
         }
         bytes[0] = self.head[self.given];
         self.given += 1;
-        self.is_ended = bytes[0] == b'\n';
+        self.ends_with_newline = bytes[0] == b'\n';
         Ok(1)
     }
 }

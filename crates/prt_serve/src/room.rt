@@ -5,7 +5,7 @@ use crate::connection::{Ends, Lines, Replies, ends_over};
 use crate::context::{ServiceContext, Serving};
 use crate::gate::{Gate, Queued};
 use crate::idle::idle_line;
-use crate::worker::{Job, Kind};
+use crate::worker::{Job, SessionKind};
 use crossbeam_channel::{Receiver, RecvTimeoutError, Sender, TrySendError};
 use std::alloc::Global;
 use std::collections::VecDeque;
@@ -16,29 +16,29 @@ use std::thread;
 use std::time::{Clock, Duration};
 
 /// How many silent connections wait at most, and how many that have sent something.
-const MOST: usize = 1024;
+const MOST_WAITING: usize = 1024;
 
 /// How many milliseconds a silent connection is a young one, which is looked at often.
-const YOUTH: u64 = 100;
+const YOUNG_MILLISECONDS: u64 = 100;
 
 /// How many milliseconds lie between two looks at a young connection.
-const OFTEN: u64 = 1;
+const YOUNG_PAUSE: u64 = 1;
 
 /// How many milliseconds lie between two looks at any other.
-const SELDOM: u64 = 50;
+const OLD_PAUSE: u64 = 50;
 
 /// How many milliseconds lie between two tries to hand a connection to the workers.
-const BUSY: u64 = 5;
+const BUSY_PAUSE: u64 = 5;
 
 /// How many milliseconds one whose client has spoken waits for a descriptor, if none is free.
-const PATIENCE: u64 = 1000;
+const DESCRIPTOR_PATIENCE: u64 = 1000;
 
-/// For how many seconds an atomic file waits for a worker, once its client has spoken. `prt` waits longer for the reply, so
-/// no file is made that it gave up before.
-const FILE_PATIENCE: u64 = 10;
+/// For how many seconds an atomic script waits for a worker, once its client has spoken. `prt` waits longer for the reply, so
+/// no script is made after it has given up.
+const SCRIPT_PATIENCE: u64 = 10;
 
 /// How many connections are handed to the workers between two looks.
-const TURN: usize = 64;
+const MOST_HANDED_OVER: usize = 64;
 
 /// A connection whose session waits for a worker.
 pub type Connected<T> = Job<Lines<T>, Replies<T>>;
@@ -50,7 +50,7 @@ pub struct Arrival<T: Drop> {
     /// Where its client is; 0.0.0.0:0 for one at a Unix socket.
     pub client: SocketAddr,
     /// How its commands are made.
-    pub kind: Kind,
+    pub kind: SessionKind,
     pub stream: T,
 }
 
@@ -59,7 +59,7 @@ pub struct Arrival<T: Drop> {
 struct Guest<T: Drop> {
     session: u64,
     client: SocketAddr,
-    kind: Kind,
+    kind: SessionKind,
     stream: T,
     /// When it came or, once its client has spoken, when that was seen, by the clock that never goes back.
     since: Duration,
@@ -128,10 +128,10 @@ fn make_ready<T: OpenStream + Drop>(guest: Guest<T>, idle: Option<Duration>) -> 
 }
 
 /// Computes until when a worker may begin with what such a client sends, who spoke at this time.
-fn until(kind: Kind, since: Duration) -> Option<Duration> {
+fn until(kind: SessionKind, since: Duration) -> Option<Duration> {
     match kind {
-        Kind::InTurn => None,
-        Kind::Together => Some(since.saturating_add(Duration::from_secs(FILE_PATIENCE))),
+        SessionKind::InTurn => None,
+        SessionKind::Together => Some(since.saturating_add(Duration::from_secs(SCRIPT_PATIENCE))),
     }
 }
 
@@ -242,20 +242,21 @@ impl<T: Read + Write + OpenStream + Drop> Room<T> {
     /// Chooses how long to wait before the next look.
     fn pause(&self, now: Duration) -> Duration {
         let youngest = self.silent.back();
-        let is_young = youngest.is_some_and(|guest| guest.age(now) < Duration::from_millis(YOUTH));
+        let is_young = youngest.is_some_and(|guest| guest.age(now)
+            < Duration::from_millis(YOUNG_MILLISECONDS));
         let pause = if is_young {
-            OFTEN
+            YOUNG_PAUSE
         } else if self.has_spoken_ones() {
-            BUSY
+            BUSY_PAUSE
         } else {
-            SELDOM
+            OLD_PAUSE
         };
         Duration::from_millis(pause)
     }
 
     /// Puts one that was looked at and sent nothing back to its place; the oldest goes if there are too many.
     fn keep_silent(&mut self, guest: Guest<T>) {
-        if self.silent.len() >= MOST {
+        if self.silent.len() >= MOST_WAITING {
             drop(self.silent.pop_front());
         }
         // Closed if there is no memory for it.
@@ -281,8 +282,8 @@ impl<T: Read + Write + OpenStream + Drop> Room<T> {
 
     /// Looks at those that are due.
     fn look(&mut self, now: Duration) {
-        let sees_all = now.saturating_sub(self.saw_all) >= Duration::from_millis(SELDOM);
-        if now.saturating_sub(self.saw_young) < Duration::from_millis(OFTEN) {
+        let sees_all = now.saturating_sub(self.saw_all) >= Duration::from_millis(OLD_PAUSE);
+        if now.saturating_sub(self.saw_young) < Duration::from_millis(YOUNG_PAUSE) {
             return;
         }
         self.saw_young = now;
@@ -293,7 +294,7 @@ impl<T: Read + Write + OpenStream + Drop> Room<T> {
             let Some(guest) = self.silent.pop_front() else {
                 return;
             };
-            if sees_all || guest.age(now) < Duration::from_millis(YOUTH) {
+            if sees_all || guest.age(now) < Duration::from_millis(YOUNG_MILLISECONDS) {
                 self.sort_in(guest, now);
             } else {
                 self.keep_silent(guest);
@@ -307,7 +308,7 @@ impl<T: Read + Write + OpenStream + Drop> Room<T> {
         let to = match guest.stream.try_clone() {
             Ok(to) => to,
             Err(error) => {
-                let has_waited = guest.age(now) >= Duration::from_millis(PATIENCE);
+                let has_waited = guest.age(now) >= Duration::from_millis(DESCRIPTOR_PATIENCE);
                 if has_waited || is_permanent(&error) {
                     return Readied::Closed;
                 }
@@ -339,7 +340,7 @@ impl<T: Read + Write + OpenStream + Drop> Room<T> {
 
     /// Hands those that have spoken to the workers, as far as there is room. Returns whether a worker is left.
     fn hand_over<H: Wait>(&mut self, rt: &H, jobs: &Sender<Connected<T>>, now: Duration) -> bool {
-        for _ in 0..TURN {
+        for _ in 0..MOST_HANDED_OVER {
             let Some(job) = self.next_job(now) else {
                 return true;
             };
@@ -364,7 +365,7 @@ impl<T: Read + Write + OpenStream + Drop> Room<T> {
             };
         }
         let pause = self.pause(time(rt));
-        if self.spoken.len() >= MOST {
+        if self.spoken.len() >= MOST_WAITING {
             thread::sleep(rt, pause);
             return Came::Nobody;
         }

@@ -11,7 +11,7 @@ use std::marker::{Model, PhantomData};
 /// alone makes one.
 ///
 /// Contracts see it as the list that the looker knew, and the number of sessions. What these were is in no memory; that
-/// there are so many, and that the list has each command which was replied `ok N` in them, is part of the value.
+/// there were that many, and that the list has each command which was replied `ok N` in them, is part of the value.
 ///
 /// [`work`]: crate::ServiceContext::work
 #[derive(Drop)]

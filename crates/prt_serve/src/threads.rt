@@ -2,7 +2,7 @@
 ghost use Rattle.std.specs.Prelude.{◌≡◌, ◌≢◌, ◌+◌, IfOk, None, true, vec_len};
 ghost use denote.Param.Send.{IsSend, IsSync};
 
-use crate::accept_loop::{Accepting, Entrance, accept_all};
+use crate::accept_loop::{Accepting, SessionListener, accept_all};
 use crate::connection::{Lines, Replies};
 use crate::context::{ServiceContext, Serving, SharedServing};
 use crate::idle::close;
@@ -164,7 +164,7 @@ struct Crew<J: ServiceBrand> {
 }
 
 impl<J: ServiceBrand> Crew<J> {
-    /// Gets memory for so many workers.
+    /// Gets memory for this number of workers.
     fn new(alloc: Global, workers: usize) -> Result<Crew<J>, AllocError>
         ensures { IfOk result (λ crew. (vec_len crew.threads ≡ 0) × (vec_len crew.shifts ≡ 0)) }
     {
@@ -253,8 +253,8 @@ impl<J: ServiceBrand> Manned<J> {
     }
 }
 
-/// Starts so many workers like this one, and adds their threads to the crew; returns whether all of that went well. The one
-/// that they are like is let go, so that a send fails once no worker is left.
+/// Starts `workers` copies of this worker, and adds their threads to the crew; returns whether all of that went well. The
+/// worker itself is dropped, so a send fails once no copy is left.
 fn start_workers<'s, E: 's, C: SharedServing + 's, T: Read + Write + OpenStream + Drop + Send + 's>(
     scope: &Scope<'s, E>,
     like: Worker<'s, C, T>,
@@ -283,7 +283,7 @@ fn accept_among_workers<
     L: OpenListener<Stream = T> + Drop + Sync,
 >(
     context: &ServiceContext<'_, C>,
-    entrances: &[Entrance<L>],
+    listeners: &[SessionListener<L>],
     limits: Limits,
     channels: Channels<T>,
     mut crew: Crew<C::Brand>,
@@ -316,13 +316,13 @@ fn accept_among_workers<
             if scope.spawn(move || attendant.serve()).is_err() {
                 return Manned::failed(crew);
             }
-            let accepting = accept_all(rt, gate, entrances, to_room, limits.sessions);
+            let accepting = accept_all(rt, gate, listeners, to_room, limits.sessions);
             Manned { crew, accepting }
         },
     )
 }
 
-/// Serves the connections of listeners by so many workers, each a session of its own, until the last that may come has
+/// Serves the connections of listeners by the workers of `limits`, each a session of its own, until the last that may come has
 /// ended. All threads have ended then. The listeners share one numbering and one limit; each `accept` is to return within a
 /// short time, also if nobody comes.
 ///
@@ -337,7 +337,11 @@ pub fn serve_sessions<
     C: SharedServing,
     T: Read + Write + OpenStream + Drop + Send,
     L: OpenListener<Stream = T> + Drop + Sync,
->(context: &ServiceContext<'_, C>, entrances: &[Entrance<L>], limits: Limits) -> Worked<C::Brand>
+>(
+    context: &ServiceContext<'_, C>,
+    listeners: &[SessionListener<L>],
+    limits: Limits,
+) -> Worked<C::Brand>
     ensures { result.end.accepting ≢ Accepting.Failed → result.end.refused ≡ None → vec_len result.shifts ≡ limits.workers }
 {
     let Ok(channels) = Channels::new(context.alloc) else {
@@ -346,6 +350,6 @@ pub fn serve_sessions<
     let Ok(crew) = Crew::new(context.alloc, limits.workers) else {
         return Worked::failed(context.alloc);
     };
-    let manned = accept_among_workers(context, entrances, limits, channels, crew);
+    let manned = accept_among_workers(context, listeners, limits, channels, crew);
     manned.join(context.rt)
 }

@@ -14,7 +14,7 @@ pub struct Turnstile {
 }
 
 impl Turnstile {
-    /// Makes one by which so many connections may come; 0 is no end.
+    /// Makes one by which `most` connections may come; 0 is no end.
     pub fn new(most: u64) -> Turnstile
         ensures { result.most ≡ most }
     {

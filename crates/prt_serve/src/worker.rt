@@ -1,4 +1,4 @@
-//! Workers: each serves one connection after another, a session or an atomic file.
+//! Workers: each serves one connection after another, a session or an atomic script.
 ghost use Rattle.std.specs.Prelude.{◌≡◌, ◌^◌, ◌-◌, List, None, IfErr, IfOk, length, min};
 ghost use Rattle.std.specs.Iterator.{Drains, IsFinite};
 ghost use Rattle.prt_published.specs.Line.{Begins, Line};
@@ -6,7 +6,7 @@ ghost use Rattle.prt_serve.specs.Jobs.{ServesAll, ServesCounted};
 ghost use Rattle.prt_serve.specs.Serving.{Serves};
 ghost use Rattle.prt_serve.specs.Together.{ServesTogether};
 
-use crate::atomic::{FileServed, serve_atomic, turn_away};
+use crate::atomic::{ScriptServed, serve_atomic, turn_away};
 use crate::connection::Pipeline;
 use crate::context::{ServiceContext, Serving};
 use crate::gate::Gate;
@@ -21,7 +21,7 @@ use std::time::{Clock, Duration};
 
 /// How the commands of a connection are made.
 #[derive(Clone, Copy)]
-pub enum Kind {
+pub enum SessionKind {
     /// One after another: each line is replied to before the next is read.
     InTurn,
     /// All together or none, once the last line is read.
@@ -35,8 +35,8 @@ pub struct Job<R: Read + Drop, W: Write + Drop> {
     pub session: u64,
     /// Where its client is; 0.0.0.0:0 for one at a Unix socket.
     pub client: SocketAddr,
-    pub kind: Kind,
-    /// Until when a worker may begin with an atomic file, by the clock that never goes back: its client may give up after
+    pub kind: SessionKind,
+    /// Until when a worker may begin with an atomic script, by the clock that never goes back: its client may give up after
     /// that. `None` is no limit, as a session has none.
     pub until: Option<Duration>,
     pub reader: R,
@@ -89,7 +89,7 @@ fn is_past<H: Clock>(rt: &H, until: Option<Duration>) -> bool {
     }
 }
 
-/// Serves the atomic file of a job, as `serve_atomic` does. If it is too late to begin, nothing of it is made, as if it
+/// Serves the atomic script of a job, as `serve_atomic` does. If it is too late to begin, nothing of it is made, as if it
 /// could not be read.
 fn serve_together<C: Serving, R: Read + Drop, W: Write + Drop>(
     context: &ServiceContext<'_, C>,
@@ -115,7 +115,7 @@ fn serve_together<C: Serving, R: Read + Drop, W: Write + Drop>(
         pipeline,
     } = job;
     context.gate.begins(session);
-    let FileServed { end, reader } = if is_past(context.rt, until) {
+    let ScriptServed { end, reader } = if is_past(context.rt, until) {
         turn_away(context, looker, session, client, reader, &mut writer)
     } else {
         serve_atomic(context, looker, session, client, reader, &mut writer)
@@ -157,11 +157,11 @@ impl<'a, C: Serving> ServiceContext<'a, C> {
         for mut job in jobs {
             served = served.saturating_add(1);
             match job.kind {
-                Kind::InTurn => {
+                SessionKind::InTurn => {
                     let end = serve_job(self, looker, &mut job);
                     after(Served { job, end });
                 }
-                Kind::Together => after(serve_together(self, looker, job)),
+                SessionKind::Together => after(serve_together(self, looker, job)),
             }
         }
         served

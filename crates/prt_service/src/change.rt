@@ -41,7 +41,7 @@ fn same(told: &Told) -> Told
 }
 
 impl<J: ServiceBrand> Change<J> {
-    /// Reports the command that was accepted so many commands before the last of a receipt, and how many it begins.
+    /// Reports the command that was accepted `later` commands before the last of a receipt, and how many it begins.
     pub(crate) fn new(last: &Receipt, later: u64, command: &Command, together: u64) -> Change<J>
         requires of { (last.now.book ≡ J.book) × (last.now.base ≡ J.base) }
         requires earlier { later < length last.now.list }

@@ -6,8 +6,8 @@ ghost use Rattle.prt_service.specs.Service.{AreAnswered};
 
 use crate::ServiceBrand;
 use crate::publisher_with_followers::PublisherWithFollowers;
+use crate::queued_command::QueuedCommand;
 use crate::submitted::Submitted;
-use crate::waiting::Waiting;
 use prt_command::{Command, Refusal};
 use prt_grace::Domain;
 use prt_publisher::ChangeSet;
@@ -20,7 +20,7 @@ use std::sync::Wait;
 /// Commands that wait, for one transaction: each is accepted after those before it. Contracts see it as the set of them.
 #[derive(Drop)]
 pub(crate) struct Group<J: ServiceBrand> {
-    waiting: Vec<Waiting<J>>,
+    waiting: Vec<QueuedCommand<J>>,
     set: ChangeSet,
 }
 
@@ -50,7 +50,7 @@ impl<J: ServiceBrand> Group<J> {
 
     /// Adds a command, and returns whether it did. It lets the command go if it is refused after those before it, or there
     /// is no memory for it.
-    fn add(&mut self, one: Waiting<J>) -> bool
+    fn add(&mut self, one: QueuedCommand<J>) -> bool
         ensures added { result ≡ true → self.new ≡ record self.old { commands = self.old.commands ++ one ∷ [] } }
         ensures let_go { result ≡ false → self.new ≡ self.old }
     {
@@ -65,7 +65,7 @@ impl<J: ServiceBrand> Group<J> {
     }
 
     /// Adds each command that is accepted after those that were added before it, and lets the others go.
-    fn add_accepted(&mut self, waiting: Vec<Waiting<J>>)
+    fn add_accepted(&mut self, waiting: Vec<QueuedCommand<J>>)
         requires { self.old.commands ≡ [] }
         ensures base { self.new.base ≡ self.old.base }
         ensures part { IsPartOf self.new.commands waiting.items }
@@ -130,12 +130,12 @@ fn have_unknown_fate(reason: &Refusal) -> bool
 /// Submits the commands that wait, in one transaction those that are accepted one after the other. The others are let go, as
 /// are all if the publisher has no room or no memory for them together: a thread that waits for one submits it by
 /// itself.
-pub(crate) fn submit_waiting<S: Alter + Drop, J: ServiceBrand, H: Wait>(
+pub(crate) fn submit_group<S: Alter + Drop, J: ServiceBrand, H: Wait>(
     publisher: &mut PublisherWithFollowers<S, J>,
     rt: &H,
     alloc: Global,
     domain: &Domain,
-    waiting: Vec<Waiting<J>>,
+    waiting: Vec<QueuedCommand<J>>,
 ) -> Option<Submitted<J>>
     ensures part { IfSome result (λ submitted. IsPartOf submitted.waiting.items waiting.items) }
     ensures submitted { IfSome result (λ submitted. AreSubmitted S.Store publisher.old submitted.waiting.items submitted.became publisher.new) }

@@ -3,7 +3,7 @@ ghost use Rattle.std.specs.Prelude.{◌≡◌, [], length};
 ghost use Rattle.prt_service.specs.Lobby.{HasEntered};
 
 use crate::ServiceBrand;
-use crate::waiting::Waiting;
+use crate::queued_command::QueuedCommand;
 use std::alloc::Global;
 use std::marker::Model;
 use std::mem;
@@ -12,19 +12,19 @@ use std::time::Duration;
 /// How many commands wait at most, and are submitted together.
 const MOST_WAITING: usize = 64;
 
-/// The part of what the last group took that the next one waits at a time.
+/// The next group pauses for a sixteenth of the time that the last one took.
 const PAUSES_OF_GROUP: u32 = 16;
 
-/// How many milliseconds a group takes at least that is worth a pause.
+/// After a group that took fewer milliseconds, a pause would cost more than it gains.
 const LEAST_WORTH: u128 = 2;
 
-/// For how many milliseconds the next group waits at a time at most.
+/// The longest pause, in milliseconds.
 const LONGEST_PAUSE: u64 = 1;
 
 /// The commands that wait, in the order in which they came. Contracts see it as their list.
 #[derive(Drop)]
 pub(crate) struct Lobby<J: ServiceBrand> {
-    waiting: Vec<Waiting<J>>,
+    waiting: Vec<QueuedCommand<J>>,
     /// How many commands the last group had.
     answered: usize,
     /// For how long the next group waits at a time for clients that were answered with the last one.
@@ -62,7 +62,7 @@ impl<J: ServiceBrand> Lobby<J> {
     }
 
     /// Lets a command wait, if there is room.
-    pub(crate) fn enter(&mut self, one: Waiting<J>) -> Entered
+    pub(crate) fn enter(&mut self, one: QueuedCommand<J>) -> Entered
         ensures { HasEntered self.old one result self.new }
     {
         let before = self.waiting.len();
@@ -77,7 +77,7 @@ impl<J: ServiceBrand> Lobby<J> {
     }
 
     /// Takes all that wait.
-    pub(crate) fn take_all(&mut self, alloc: Global) -> Vec<Waiting<J>>
+    pub(crate) fn take_all(&mut self, alloc: Global) -> Vec<QueuedCommand<J>>
         ensures all { result.items ≡ self.old }
         ensures none { self.new ≡ [] }
     {
@@ -110,8 +110,7 @@ impl<J: ServiceBrand> Lobby<J> {
     }
 }
 
-/// Computes for how long a group waits at a time after one that took so long. On a quick disk a pause would cost more than
-/// it gains.
+/// Computes the pause of a group after one that took this long: none on a quick disk.
 fn pause_after(took: Duration) -> Duration {
     if took.as_millis() < LEAST_WORTH {
         return Duration::ZERO;

@@ -16,7 +16,7 @@ ghost use Rattle.prt_version.specs.Accepted.{IsAccepted};
 use crate::change::Change;
 use crate::followers::{FollowerNumber, Followers};
 use crate::submit_error::SubmitError;
-use crate::tally::{Commit, Tally};
+use crate::tally::{CommitTime, Tally};
 use crate::{Released, ServiceBrand, Unfollowed};
 use crossbeam_channel::Sender;
 use prt_command::{Command, Refusal};
@@ -262,17 +262,17 @@ impl<S: Alter + Drop, J: ServiceBrand> PublisherWithFollowers<S, J> {
     }
 
     /// Counts commands that were submitted together and acknowledged.
-    pub(crate) fn count(&mut self, commands: u64, commit: Commit)
+    pub(crate) fn count(&mut self, commands: u64, time: CommitTime)
         ensures { self.new ≡ self.old }
     {
-        self.tally.count(commands, commit);
+        self.tally.count(commands, time);
     }
 
-    /// Notes why a submission was refused, if it closed with it.
-    pub(crate) fn refuse(&mut self, reason: Refusal)
+    /// Keeps why a submission was refused, if it closed with it.
+    pub(crate) fn count_refusal(&mut self, reason: Refusal)
         ensures { self.new ≡ self.old }
     {
-        self.tally.refuse(reason);
+        self.tally.count_refusal(reason);
     }
 
     /// Returns what came of the submissions so far.

@@ -10,13 +10,13 @@ ghost use Rattle.prt_service.specs.Service.{EndsWith, EndsWithAll, IsAfter, IsAn
 use crate::figures::{Figures, figures_of};
 use crate::follower::Changes;
 use crate::followers::FollowerNumber;
-use crate::group::submit_waiting;
+use crate::group::submit_group;
 use crate::lobby::{Entered, Lobby};
 use crate::publisher_with_followers::PublisherWithFollowers;
+use crate::queued_command::QueuedCommand;
 use crate::spare::{Returned, SpareReaders};
 use crate::submit_error::SubmitError;
-use crate::tally::{Commit, Stopwatch};
-use crate::waiting::Waiting;
+use crate::tally::{CommitTime, Stopwatch};
 use crate::{Follower, Looker, Released, ServiceBrand, Unfollowed};
 use crossbeam_channel::bounded;
 use prt_command::{Command, Refusal};
@@ -129,7 +129,7 @@ impl<S: Alter + Drop, J: ServiceBrand> Service<S, J> {
         let mut publisher = self.publisher.lock(rt);
         let watch = Stopwatch::start(rt);
         let became = publisher.submit(rt, &self.domain, command);
-        note(&mut publisher, 1, &became, watch.stop(rt));
+        count_outcome(&mut publisher, 1, &became, watch.stop(rt));
         became
     }
 
@@ -145,9 +145,12 @@ impl<S: Alter + Drop, J: ServiceBrand> Service<S, J> {
         let Ok((reply_to, replies)) = bounded(self.alloc, 1) else {
             return None;
         };
-        let entered = self.lobby.lock(rt).enter(Waiting::new(command, reply_to));
+        let entered = self
+            .lobby
+            .lock(rt)
+            .enter(QueuedCommand::new(command, reply_to));
         match entered {
-            Entered::First => self.submit_waiting(rt),
+            Entered::First => self.lead_group(rt),
             Entered::Later => {}
             Entered::Full => return None,
         }
@@ -172,17 +175,17 @@ impl<S: Alter + Drop, J: ServiceBrand> Service<S, J> {
     }
 
     /// Submits the commands that wait once the publisher is free, and answers those that were submitted.
-    fn submit_waiting<H: Wait + Clock>(&self, rt: &H) {
+    fn lead_group<H: Wait + Clock>(&self, rt: &H) {
         let mut publisher = self.publisher.lock(rt);
         self.await_others(rt);
         let waiting = self.lobby.lock(rt).take_all(self.alloc);
         let watch = Stopwatch::start(rt);
-        let submitted = submit_waiting(&mut publisher, rt, self.alloc, &self.domain, waiting);
-        let commit = watch.stop(rt);
+        let submitted = submit_group(&mut publisher, rt, self.alloc, &self.domain, waiting);
+        let time = watch.stop(rt);
         if let Some(submitted) = submitted {
             let commands = submitted.waiting.len();
-            note(&mut publisher, commands as u64, &submitted.became, commit);
-            self.lobby.lock(rt).note_group(commands, commit.took);
+            count_outcome(&mut publisher, commands as u64, &submitted.became, time);
+            self.lobby.lock(rt).note_group(commands, time.took);
             // Sends the answers under the lock: those that are answered then come back in time for the next group.
             submitted.answer(rt);
         }
@@ -260,7 +263,7 @@ impl<S: Alter + Drop, J: ServiceBrand> Service<S, J> {
         let mut publisher = self.publisher.lock(rt);
         let watch = Stopwatch::start(rt);
         let became = publisher.submit_all_at(rt, &self.domain, expected, commands);
-        note_at(
+        count_outcome_at(
             &mut publisher,
             commands.len() as u64,
             &became,
@@ -391,33 +394,33 @@ impl<S: Alter + Drop, J: ServiceBrand> Service<S, J> {
     }
 }
 
-/// Counts so many commands that were submitted together, or notes why they were refused.
-fn note<S: Alter + Drop, J: ServiceBrand>(
+/// Counts commands that were submitted together, or keeps why they were refused.
+fn count_outcome<S: Alter + Drop, J: ServiceBrand>(
     publisher: &mut PublisherWithFollowers<S, J>,
     commands: u64,
     became: &Result<Receipt, Refusal>,
-    commit: Commit,
+    time: CommitTime,
 )
     ensures { publisher.new ≡ publisher.old }
 {
     match became {
-        Ok(_) => publisher.count(commands, commit),
-        Err(reason) => publisher.refuse(*reason),
+        Ok(_) => publisher.count(commands, time),
+        Err(reason) => publisher.count_refusal(*reason),
     }
 }
 
-/// Counts commands that were submitted at an expected number, or notes why they were refused.
-fn note_at<S: Alter + Drop, J: ServiceBrand>(
+/// Counts commands that were submitted at an expected number, or keeps why they were refused.
+fn count_outcome_at<S: Alter + Drop, J: ServiceBrand>(
     publisher: &mut PublisherWithFollowers<S, J>,
     commands: u64,
     became: &Result<Receipt, SubmitError>,
-    commit: Commit,
+    time: CommitTime,
 )
     ensures { publisher.new ≡ publisher.old }
 {
     match became {
-        Ok(_) => publisher.count(commands, commit),
-        Err(SubmitError::Refused(reason)) => publisher.refuse(*reason),
+        Ok(_) => publisher.count(commands, time),
+        Err(SubmitError::Refused(reason)) => publisher.count_refusal(*reason),
         Err(SubmitError::Moved(_)) => {}
     }
 }

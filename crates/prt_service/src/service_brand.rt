@@ -2,8 +2,8 @@
 
 use std::marker::Brand;
 
-/// Names a front, the state that was loaded into it, and whether its tables are the first of their file. It has no values:
-/// each call of a program that makes a service picks what it names.
+/// A name, at the level of types, of one front: of the state that was loaded into it, and of whether its tables are the first
+/// of their file. It has no values. The call that makes a service picks what it names.
 pub trait ServiceBrand {
     ghost use Rattle.std.specs.Prelude.{Bool};
     ghost use Rattle.logbook.specs.Pages.{Book};
@@ -16,7 +16,7 @@ pub trait ServiceBrand {
     ghost ours_first: { Bool };
 }
 
-/// Any call may be the one that picks.
+/// What a call names that picks nothing else.
 impl ServiceBrand for Brand {
     ghost use Rattle.std.specs.Prelude.{true};
     ghost use Rattle.prt_version.specs.State.{opening_state};

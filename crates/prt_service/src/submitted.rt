@@ -7,7 +7,7 @@ ghost use Rattle.prt_service.specs.Group.{answer_before};
 ghost use Rattle.prt_service.specs.Service.{AreAnswered};
 
 use crate::ServiceBrand;
-use crate::waiting::Waiting;
+use crate::queued_command::QueuedCommand;
 use prt_command::Refusal;
 use prt_publisher::Receipt;
 use std::sync::Wait;
@@ -16,7 +16,7 @@ use std::sync::Wait;
 /// there is none.
 #[derive(Drop)]
 pub(crate) struct Submitted<J: ServiceBrand> {
-    pub(crate) waiting: Vec<Waiting<J>>,
+    pub(crate) waiting: Vec<QueuedCommand<J>>,
     pub(crate) became: Result<Receipt, Refusal>,
 }
 
@@ -35,7 +35,7 @@ impl<J: ServiceBrand> Submitted<J> {
     }
 }
 
-/// Derives from what became of all the answer to the command that was submitted so many commands before the last: its
+/// Derives from what became of all the answer to the command that was submitted `later` commands before the last: its
 /// own receipt, or the one reason.
 fn answer_before(became: &Result<Receipt, Refusal>, later: u64) -> Result<Receipt, Refusal>
     requires { IfOk became.now (λ last. later < length last.list) }

@@ -5,9 +5,9 @@ ghost use Rattle.prt_service.specs.Tally.{counted_more};
 use prt_command::Refusal;
 use std::time::{Clock, Duration};
 
-/// A submission that was acknowledged.
+/// When a submission was acknowledged, and how long it took.
 #[derive(Clone, Copy)]
-pub struct Commit {
+pub struct CommitTime {
     /// When it was, since 1970 by the clock of the day; `None` if that can't be read.
     pub at: Option<Duration>,
     /// How long its check, its transaction and its publication took together; 0 if no clock can be read.
@@ -22,7 +22,7 @@ pub struct Tally {
     /// How many commands those had.
     pub commands: u64,
     /// The last of them, if there was one.
-    pub last: Option<Commit>,
+    pub last: Option<CommitTime>,
     /// Why the publisher closed, if it did.
     pub closed_by: Option<Refusal>,
 }
@@ -45,23 +45,23 @@ impl Tally {
         }
     }
 
-    /// Counts a submission of so many commands that was acknowledged. A count stays at its greatest value.
-    pub(crate) fn count(&mut self, commands: u64, commit: Commit)
+    /// Counts a submission that was acknowledged, by how many commands it had. A count stays at its greatest value.
+    pub(crate) fn count(&mut self, commands: u64, time: CommitTime)
         ensures { self.new ≡ record {
           groups = counted_more self.old.groups 1;
           commands = counted_more self.old.commands commands;
           last =
-              Some commit;
+              Some time;
           closed_by = self.old.closed_by;
         } }
     {
         self.groups = self.groups.saturating_add(1);
         self.commands = self.commands.saturating_add(commands);
-        self.last = Some(commit);
+        self.last = Some(time);
     }
 
-    /// Notes why a submission was refused, if the publisher closed with it.
-    pub(crate) fn refuse(&mut self, reason: Refusal)
+    /// Keeps why a submission was refused, if the publisher closed with it.
+    pub(crate) fn count_refusal(&mut self, reason: Refusal)
         ensures { (self.new.groups ≡ self.old.groups) × (self.new.commands ≡ self.old.commands) × (self.new.last ≡ self.old.last) }
     {
         if self.closed_by.is_none() && is_closing(reason) {
@@ -88,8 +88,8 @@ impl Stopwatch {
     }
 
     /// Says what was measured of a submission that has ended.
-    pub(crate) fn stop<H: Clock>(self, rt: &H) -> Commit {
-        Commit {
+    pub(crate) fn stop<H: Clock>(self, rt: &H) -> CommitTime {
+        CommitTime {
             at: rt.since_1970().ok(),
             took: now(rt).saturating_sub(self.began),
         }

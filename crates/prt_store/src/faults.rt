@@ -9,19 +9,19 @@ use std::io;
 
 /// A disk that passes so many calls on, fails one, and passes each later one on.
 #[derive(Drop)]
-pub struct FailOnce<D: Disk> {
-    inner: D,
+pub struct FailOnce<V: Disk> {
+    inner: V,
     calls_left: u64,
     has_failed: bool,
     refused: u64,
     sync_refused: bool,
 }
 
-impl<D: Disk> FailOnce<D> {
+impl<V: Disk> FailOnce<V> {
     ghost use Rattle.prt_store.specs.FailOnce.{inner_of, calls_left, has_failed, IsFresh};
 
     /// Makes a disk that fails after so many calls.
-    pub fn new(inner: D, calls: u64) -> FailOnce<D>
+    pub fn new(inner: V, calls: u64) -> FailOnce<V>
         ensures inner { inner_of result ≡ inner }
         ensures calls { calls_left result ≡ calls }
         ensures fresh { IsFresh result }
@@ -36,7 +36,7 @@ impl<D: Disk> FailOnce<D> {
     }
 
     /// Returns the disk that calls are passed on to.
-    pub fn inner(&self) -> &D
+    pub fn inner(&self) -> &V
         ensures { result.now ≡ inner_of self.now }
     {
         &self.inner
@@ -78,30 +78,30 @@ fn spend(calls_left: &mut u64, has_failed: &mut bool, refused: &mut u64) -> io::
     Ok(())
 }
 
-impl<D: Disk> Disk for FailOnce<D> {
-    ghost seen = { λ f. D.Disk.seen f.inner };
+impl<V: Disk> Disk for FailOnce<V> {
+    ghost seen = { λ f. V.Disk.seen f.inner };
 
-    ghost may_leave = { λ f. D.Disk.may_leave f.inner };
+    ghost may_leave = { λ f. V.Disk.may_leave f.inner };
 
-    ghost is_usable = { λ f. D.Disk.is_usable f.inner && not f.sync_refused };
+    ghost is_usable = { λ f. V.Disk.is_usable f.inner && not f.sync_refused };
 
-    ghost faults = { λ f. D.Disk.faults f.inner + f.refused };
+    ghost faults = { λ f. V.Disk.faults f.inner + f.refused };
 
-    ghost tally_of = { λ f. D.Disk.tally_of f.inner };
+    ghost tally_of = { λ f. V.Disk.tally_of f.inner };
 
-    ghost is_rotten = { λ f. D.Disk.is_rotten f.inner };
+    ghost is_rotten = { λ f. V.Disk.is_rotten f.inner };
 
-    ghost key_of = { λ f. D.Disk.key_of f.inner };
+    ghost key_of = { λ f. V.Disk.key_of f.inner };
 
-    ghost is_clean = { λ f. D.Disk.is_clean f.inner };
+    ghost is_clean = { λ f. V.Disk.is_clean f.inner };
 
-    ghost is_fair = { λ f. D.Disk.is_fair f.inner };
+    ghost is_fair = { λ f. V.Disk.is_fair f.inner };
 
-    ghost fair_if_clean = { λ f. D.Disk.fair_if_clean f.inner };
+    ghost fair_if_clean = { λ f. V.Disk.fair_if_clean f.inner };
 
-    ghost seen_may_stay = { λ f. D.Disk.seen_may_stay f.inner };
+    ghost seen_may_stay = { λ f. V.Disk.seen_may_stay f.inner };
 
-    ghost is_mixing = { λ f. D.Disk.is_mixing f.inner };
+    ghost is_mixing = { λ f. V.Disk.is_mixing f.inner };
 
     fn mixes(&self) -> bool {
         self.inner.mixes()

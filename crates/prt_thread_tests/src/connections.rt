@@ -8,7 +8,8 @@ use prt_command::Refusal;
 use prt_grace::Domain;
 use prt_publisher::Publisher;
 use prt_serve::{
-    Accepting, Entrance, Kind, Limits, OpenGate, ServiceContext, Turnstile, accept, serve_sessions,
+    Accepting, Limits, OpenGate, ServiceContext, SessionKind, SessionListener, Turnstile, accept,
+    serve_sessions,
 };
 use prt_service::{Service, ServiceBrand};
 use sqlite::{Alter, Connection};
@@ -90,10 +91,10 @@ impl OpenListener for Queue {
 }
 
 /// Makes a listener one of sessions that execute each line once it is read.
-fn entrance(listener: Queue) -> Entrance<Queue> {
-    Entrance {
+fn session_listener(listener: Queue) -> SessionListener<Queue> {
+    SessionListener {
         listener,
-        kind: Kind::InTurn,
+        kind: SessionKind::InTurn,
     }
 }
 
@@ -118,7 +119,7 @@ fn handed_over<H: Wait + Clock>(
         accept(
             rt,
             &OpenGate,
-            &entrance(listener),
+            &session_listener(listener),
             to,
             &Turnstile::new(sessions)
         ),
@@ -147,7 +148,7 @@ fn connections_are_numbered(rt: HostRuntime) -> Result<(), Fail> {
 #[test]
 fn nobody_takes_a_connection(rt: HostRuntime) -> Result<(), Fail> {
     let alloc = rt.alloc();
-    let only = entrance(Queue::new(5, 9));
+    let only = session_listener(Queue::new(5, 9));
     let (to, from) = bounded(alloc, 64)?;
     drop(from);
     let end = accept(&rt, &OpenGate, &only, to, &Turnstile::new(5));
@@ -166,7 +167,7 @@ fn serve_without_looker<
     alloc: Global,
     publisher: Publisher<S>,
     domain: Domain,
-    entrances: &[Entrance<Queue>],
+    listeners: &[SessionListener<Queue>],
 ) -> Result<Option<Refusal>, Refusal>
     requires quiet { IsQuiet publisher.phase }
     requires of { IsNamed J.book J.base J.ours_first publisher }
@@ -180,7 +181,7 @@ fn serve_without_looker<
         }
     }
     let context = ServiceContext::new(rt, alloc, &service, &OpenGate);
-    let end = serve_sessions(&context, entrances, limited_to(0)).end;
+    let end = serve_sessions(&context, listeners, limited_to(0)).end;
     match end.accepting {
         Accepting::NoWorkers => Ok(end.refused),
         Accepting::Ended | Accepting::Failed => Ok(None),
@@ -197,9 +198,9 @@ fn worker_without_looker(rt: HostRuntime) -> Result<(), Fail> {
     let connection = Connection::open_in_memory(alloc)?;
     let (publisher, domain) = adopted(alloc, connection)?;
     // More connections than may wait: a send fails once the worker is gone.
-    let only = entrance(Queue::new(10_000, 10_000));
-    let entrances = slice::from_ref(&only);
-    let refused = serve_without_looker::<_, _, Brand>(&rt, alloc, publisher, domain, entrances)?;
+    let only = session_listener(Queue::new(10_000, 10_000));
+    let listeners = slice::from_ref(&only);
+    let refused = serve_without_looker::<_, _, Brand>(&rt, alloc, publisher, domain, listeners)?;
     assert_eq!(rt; refused, Some(Refusal::Full));
     assert!(rt; only.listener.accepted.load(Ordering::SeqCst) <= UNSERVED);
     Ok(())

@@ -6,7 +6,9 @@ use crate::caller::{adopted, service_over};
 use prt_command::Refusal;
 use prt_grace::Domain;
 use prt_publisher::Publisher;
-use prt_serve::{Accepting, Entrance, Kind, Limits, OpenGate, ServiceContext, serve_sessions};
+use prt_serve::{
+    Accepting, Limits, OpenGate, ServiceContext, SessionKind, SessionListener, serve_sessions,
+};
 use prt_service::{Service, ServiceBrand};
 use sqlite::{Alter, Connection};
 use std::alloc::Global;
@@ -37,13 +39,13 @@ fn converse<
         sessions: 1,
         idle: None,
     };
-    let only = Entrance {
+    let only = SessionListener {
         listener,
-        kind: Kind::InTurn,
+        kind: SessionKind::InTurn,
     };
-    let entrances = slice::from_ref(&only);
+    let listeners = slice::from_ref(&only);
     let context = ServiceContext::new(rt, alloc, service, &OpenGate);
-    let end = serve_sessions(&context, entrances, limits).end;
+    let end = serve_sessions(&context, listeners, limits).end;
     let mut text = Vec::new(alloc);
     client.read_to_end(&mut text)?;
     let is_ended = matches!(end.accepting, Accepting::Ended) && end.refused.is_none();

@@ -7,7 +7,7 @@ use crossbeam_channel::{Receiver, Sender, bounded};
 use prt_command::Refusal;
 use prt_grace::Domain;
 use prt_publisher::Publisher;
-use prt_serve::{Gate, Job, Kind, Served, ServiceContext};
+use prt_serve::{Gate, Job, Served, ServiceContext, SessionKind};
 use prt_service::{Service, ServiceBrand};
 use prt_session::Reply;
 use sqlite::{Alter, Connection};
@@ -102,7 +102,7 @@ fn hand_over<H: Wait + Copy + Drop>(
     let job = Job {
         session,
         client: SocketAddr::from((Ipv4Addr::LOCALHOST, 0)),
-        kind: Kind::InTurn,
+        kind: SessionKind::InTurn,
         until: None,
         reader: b"route get 10.0.0.1\n".as_slice(),
         writer: Client {

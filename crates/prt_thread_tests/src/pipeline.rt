@@ -6,7 +6,7 @@ use crate::caller::{adopted, service_over, submit_to_service};
 use prt_command::Refusal;
 use prt_grace::Domain;
 use prt_publisher::Publisher;
-use prt_serve::{Gate, Kind, ServiceContext, ends_over, serve_session};
+use prt_serve::{Gate, ServiceContext, SessionKind, ends_over, serve_session};
 use prt_service::{Service, ServiceBrand};
 use prt_session::Reply;
 use sqlite::{Alter, Connection};
@@ -129,7 +129,7 @@ fn serve<J: ServiceBrand, S: Alter + Drop, H: Wait + Clock + Copy + Drop>(
         service,
         seen: shown,
     };
-    let mut ends = ends_over(alloc, from, to, Kind::InTurn)?;
+    let mut ends = ends_over(alloc, from, to, SessionKind::InTurn)?;
     let lent = &mut ends;
     let client = SocketAddr::from((Ipv4Addr::LOCALHOST, 0));
     let context = ServiceContext::new(rt, alloc, service, &gate);

@@ -70,7 +70,7 @@ pub fn new_files(alloc: Global, faults: Faults) -> Files<Faulty> {
 }
 
 /// Returns the files of a connection, closed as far as their disk allows it.
-pub fn closed<D: Disk + Drop>(connection: Connection<FileStore<D>>) -> Files<D> {
+pub fn closed<V: Disk + Drop>(connection: Connection<FileStore<V>>) -> Files<V> {
     match connection.close_files() {
         Ok(files) => files,
         Err((_, store)) => store.close(),
@@ -78,13 +78,13 @@ pub fn closed<D: Disk + Drop>(connection: Connection<FileStore<D>>) -> Files<D> 
 }
 
 /// Runs a script over the database of a connection. Returns how it ran, or why no desk was made; and the files.
-fn run_over<D: Disk + Drop, H: Wait + Copy + Drop>(
+fn run_over<V: Disk + Drop, H: Wait + Copy + Drop>(
     rt: H,
     alloc: Global,
-    connection: Connection<FileStore<D>>,
+    connection: Connection<FileStore<V>>,
     script: &str,
     mode: Mode,
-) -> (Result<Ran, Refusal>, Files<D>) {
+) -> (Result<Ran, Refusal>, Files<V>) {
     match desk_over(rt, alloc, connection) {
         Ok(mut desk) => {
             let (replies, end) = match mode {
@@ -104,13 +104,13 @@ fn run_over<D: Disk + Drop, H: Wait + Copy + Drop>(
 }
 
 /// Runs a script over the database of these files. For files of whatever kind, so that the proof knows nothing of them.
-pub fn run_in<D: Disk + Drop, H: Wait + Copy + Drop>(
+pub fn run_in<V: Disk + Drop, H: Wait + Copy + Drop>(
     rt: H,
     alloc: Global,
-    files: Files<D>,
+    files: Files<V>,
     script: &str,
     mode: Mode,
-) -> (Result<Ran, Refusal>, Files<D>) {
+) -> (Result<Ran, Refusal>, Files<V>) {
     if !files.may_be_used() {
         return (Err(Refusal::OpenFailed), files);
     }

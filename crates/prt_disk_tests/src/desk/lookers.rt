@@ -169,16 +169,16 @@ fn serve_connection<S: Alter + Drop, H: Wait + Clock + Copy + Drop>(
 
 /// Looks beside a service over the database of these files. For files of whatever kind, so that the proof knows nothing of
 /// them.
-fn serve_in<D: Disk + Drop, H: Wait + Clock + Copy + Drop>(
+fn serve_in<V: Disk + Drop, H: Wait + Clock + Copy + Drop>(
     rt: H,
     alloc: Global,
-    files: Files<D>,
+    files: Files<V>,
 ) -> Result<Seen, Refusal> {
     if !files.may_be_used() {
         return Err(Refusal::OpenFailed);
     }
     match Connection::open_files(alloc, files, OPTIONS) {
-        Ok(connection) => serve_connection::<FileStore<D>, H>(rt, alloc, connection),
+        Ok(connection) => serve_connection::<FileStore<V>, H>(rt, alloc, connection),
         Err(_) => Err(Refusal::OpenFailed),
     }
 }

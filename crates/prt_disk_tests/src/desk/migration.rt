@@ -20,12 +20,12 @@ const HELD: &[u8] =
     b"0:\tfrom all lookup local\n32765:\tnot from all fwmark 0xca6c lookup 51820\n32766:\tfrom all lookup main\n32767:\tfrom all lookup default\nend 4\ndefault dev wg0 table 51820 scope link\nend 1\nanswer 2 rule 32765 table 51820 default dev wg0 scope link\n";
 
 /// Opens the database of these files and runs statements. Returns the files, and how many rows the last statement changed.
-fn changed_in<D: Disk + Drop>(
+fn changed_in<V: Disk + Drop>(
     alloc: Global,
-    files: Files<D>,
+    files: Files<V>,
     tables: &str,
     change: &str,
-) -> Result<(usize, Files<D>), Fail> {
+) -> Result<(usize, Files<V>), Fail> {
     if !files.may_be_used() {
         return Err(Fail::from(Refusal::OpenFailed));
     }

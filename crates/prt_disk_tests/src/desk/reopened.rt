@@ -28,11 +28,11 @@ impl Write for Shut {
 }
 
 /// Makes a desk over the database of these files. For files of whatever kind, so that the proof knows nothing of them.
-fn desk_in<D: Disk + Drop, H: Wait + Copy + Drop>(
+fn desk_in<V: Disk + Drop, H: Wait + Copy + Drop>(
     rt: H,
     alloc: Global,
-    files: Files<D>,
-) -> Result<StoreDesk<FileStore<D>, H>, Refusal> {
+    files: Files<V>,
+) -> Result<StoreDesk<FileStore<V>, H>, Refusal> {
     if !files.may_be_used() {
         return Err(Refusal::OpenFailed);
     }
@@ -43,11 +43,11 @@ fn desk_in<D: Disk + Drop, H: Wait + Copy + Drop>(
 }
 
 /// Closes the database of a desk, and makes a desk over its files again.
-fn reopened<D: Disk + Drop, H: Wait + Copy + Drop>(
+fn reopened<V: Disk + Drop, H: Wait + Copy + Drop>(
     rt: H,
     alloc: Global,
-    desk: StoreDesk<FileStore<D>, H>,
-) -> Result<StoreDesk<FileStore<D>, H>, Refusal> {
+    desk: StoreDesk<FileStore<V>, H>,
+) -> Result<StoreDesk<FileStore<V>, H>, Refusal> {
     match desk.end().close_files() {
         Ok(files) => desk_in(rt, alloc, files),
         Err((_, store)) => {
@@ -59,10 +59,10 @@ fn reopened<D: Disk + Drop, H: Wait + Copy + Drop>(
 
 /// Runs a script whose replies cannot be written, closes the database and opens it again. Returns why the run ended
 /// and the replies to a second script.
-fn run_unheard<D: Disk + Drop, H: Wait + Copy + Drop>(
+fn run_unheard<V: Disk + Drop, H: Wait + Copy + Drop>(
     rt: H,
     alloc: Global,
-    files: Files<D>,
+    files: Files<V>,
     script: &str,
     second: &str,
 ) -> Result<(Option<Refusal>, Vec<u8>), Refusal> {
@@ -81,10 +81,10 @@ fn run_unheard<D: Disk + Drop, H: Wait + Copy + Drop>(
 }
 
 /// Runs a script, closes the database and opens it again, and returns the replies to it and to a second one.
-fn run_twice<D: Disk + Drop, H: Wait + Copy + Drop>(
+fn run_twice<V: Disk + Drop, H: Wait + Copy + Drop>(
     rt: H,
     alloc: Global,
-    files: Files<D>,
+    files: Files<V>,
     script: &str,
     second: &str,
 ) -> Result<(Vec<u8>, Vec<u8>), Refusal> {

@@ -11,9 +11,9 @@ use std::alloc::Global;
 
 /// Why a command is refused in the database of these files. Each page is read from the log again, so that each statement
 /// calls it. For files of whatever kind, so that the proof knows nothing of them.
-fn refusal_in<D: Disk + Drop>(alloc: Global, files: Files<D>) -> Option<Refusal>
-    requires log { IsTrue (D.Disk.is_usable files.log) }
-    requires db { IsTrue (D.Disk.is_usable files.db) }
+fn refusal_in<V: Disk + Drop>(alloc: Global, files: Files<V>) -> Option<Refusal>
+    requires log { IsTrue (V.Disk.is_usable files.log) }
+    requires db { IsTrue (V.Disk.is_usable files.db) }
 {
     let options = Options {
         cache_pages: 1,

@@ -18,7 +18,7 @@ pub const OPTIONS: Options = Options {
 pub type Faulty = FailOnce<Memory>;
 
 /// Returns the files of a connection, closed as far as their disk allows it.
-pub fn closed<D: Disk + Drop>(connection: Connection<FileStore<D>>) -> Files<D> {
+pub fn closed<V: Disk + Drop>(connection: Connection<FileStore<V>>) -> Files<V> {
     match connection.close_files() {
         Ok(files) => files,
         Err((_, store)) => store.close(),

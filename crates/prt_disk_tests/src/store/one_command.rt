@@ -150,12 +150,12 @@ fn make_over<S: Alter + Drop, H: Wait>(
 }
 
 /// The same over the database of these files. For files of whatever kind, so that the proof knows nothing of them.
-fn make_in<D: Disk + Drop, H: Wait>(
+fn make_in<V: Disk + Drop, H: Wait>(
     rt: &H,
     alloc: Global,
-    files: Files<D>,
+    files: Files<V>,
     extent: Extent,
-) -> (Result<Ended, Refusal>, Files<D>) {
+) -> (Result<Ended, Refusal>, Files<V>) {
     if !files.may_be_used() {
         return (Err(Refusal::OpenFailed), files);
     }
@@ -170,10 +170,10 @@ fn make_in<D: Disk + Drop, H: Wait>(
 
 /// Checks whether the database of these files encodes the state before the command, and whether it encodes the one after
 /// it. Returns the files too.
-fn found_in<D: Disk + Drop>(
+fn found_in<V: Disk + Drop>(
     alloc: Global,
-    files: Files<D>,
-) -> Result<(bool, bool, Files<D>), Refusal> {
+    files: Files<V>,
+) -> Result<(bool, bool, Files<V>), Refusal> {
     if !files.may_be_used() {
         return Err(Refusal::OpenFailed);
     }

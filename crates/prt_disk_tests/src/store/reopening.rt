@@ -17,11 +17,11 @@ use std::alloc::Global;
 /// # Errors
 ///
 /// `OpenFailed` if a call fails; the files are let go.
-fn opened_again<D: Disk + Drop>(
+fn opened_again<V: Disk + Drop>(
     alloc: Global,
-    conn: Connection<FileStore<D>>,
+    conn: Connection<FileStore<V>>,
     options: Options,
-) -> Result<Connection<FileStore<D>>, Refusal>
+) -> Result<Connection<FileStore<V>>, Refusal>
     ensures { IfOk result (λ again. HasCleanDisk (file_state again) → (file_state again).now ≡ (file_state conn).committed) }
 {
     // Says that the rows are as the schema has them.
@@ -45,11 +45,11 @@ fn opened_again<D: Disk + Drop>(
 /// # Errors
 ///
 /// `OpenFailed` if a call fails; the files are let go.
-pub fn reopened<D: Disk + Drop>(
+pub fn reopened<V: Disk + Drop>(
     alloc: Global,
-    store: Store<FileStore<D>>,
+    store: Store<FileStore<V>>,
     options: Options,
-) -> Result<Store<FileStore<D>>, Refusal>
+) -> Result<Store<FileStore<V>>, Refusal>
     ensures { IfOk result (λ again. HasCleanDisk (file_state again.conn) → (stored : State) →
         Stores (file_state store.conn).committed stored → Stores (file_state again.conn).now stored) }
 {

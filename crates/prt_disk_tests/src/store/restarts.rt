@@ -29,9 +29,9 @@ fn options() -> Options {
 }
 
 /// Checks whether the database of these files, after `rule flush`, encodes that once it is closed and opened again.
-fn finds_flush<D: Disk + Drop>(alloc: Global, files: Files<D>) -> Result<bool, Refusal>
-    requires log { IsTrue (D.Disk.is_usable files.log) }
-    requires db { IsTrue (D.Disk.is_usable files.db) }
+fn finds_flush<V: Disk + Drop>(alloc: Global, files: Files<V>) -> Result<bool, Refusal>
+    requires log { IsTrue (V.Disk.is_usable files.log) }
+    requires db { IsTrue (V.Disk.is_usable files.db) }
 {
     let connection = match Connection::open_files(alloc, files, options()) {
         Ok(connection) => committed(alloc, connection, "rule flush")?,

@@ -80,7 +80,7 @@ fn submit_over<S: Alter + Drop>(
 
 /// Commits the script's commands together in the database of these files. For files of whatever kind, so that the proof
 /// knows nothing of them.
-fn submit_in<D: Disk + Drop>(alloc: Global, files: Files<D>) -> (Result<(), Refusal>, Files<D>) {
+fn submit_in<V: Disk + Drop>(alloc: Global, files: Files<V>) -> (Result<(), Refusal>, Files<V>) {
     if !files.may_be_used() {
         return (Err(Refusal::OpenFailed), files);
     }
@@ -94,7 +94,7 @@ fn submit_in<D: Disk + Drop>(alloc: Global, files: Files<D>) -> (Result<(), Refu
 }
 
 /// Checks whether the database of these files encodes the opening state, and whether it encodes the one after all commands.
-fn found_in<D: Disk + Drop>(alloc: Global, files: Files<D>) -> Result<(bool, bool), Refusal> {
+fn found_in<V: Disk + Drop>(alloc: Global, files: Files<V>) -> Result<(bool, bool), Refusal> {
     if !files.may_be_used() {
         return Err(Refusal::OpenFailed);
     }

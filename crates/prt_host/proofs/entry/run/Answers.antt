@@ -10,16 +10,16 @@ use Rattle.prt_host.proofs.entry.run.Goals as goal
 pub returns-in-Exit : goal.returns-in-Exit
 returns-in-Exit g c =
     let asked = invocation (arguments c.args.words.now) in
-    exit_alone g.H.Store.Store g.H-Opener-DatabaseOpener c.args.databases.now c.program-next.new.databases (λ d. d.machine) (g.H.Files.ReadFiles.opens c.args.databases.now.files.now) g.H.Files.Opened.Read.remaining _ asked _ c.in-Exit.status c.in-Exit.ensures.run c.in-Exit.ensures.unopened
+    exit_alone g.H.Store.Store g.H-Opener-DatabaseOpener c.args.databases.now c.program-next.new.databases (λ d. d.opener) (g.H.Files.ReadFiles.opens c.args.databases.now.files.now) g.H.Files.Opened.Read.remaining _ asked _ c.in-Exit.status c.in-Exit.ensures.run c.in-Exit.ensures.unopened
 
 pub returns-in-Serve : goal.returns-in-Serve
 returns-in-Serve g c =
     let said = c.in-Serve.ensures in
-    let old = c.args.databases.now.machine in
-    let mid = c.program-next.new.databases.machine in
-    let same : mid ≡ old = same_at c.args.databases.now c.program-next.new.databases (λ d. d.machine) (said.unopened (ap database_of said.serve.0)) in
+    let old = c.args.databases.now.opener in
+    let mid = c.program-next.new.databases.opener in
+    let same : mid ≡ old = same_at c.args.databases.now c.program-next.new.databases (λ d. d.opener) (said.unopened (ap database_of said.serve.0)) in
     let words = arguments c.args.words.now in
-    let ended = has_served g.H.Store.Store g.H-Opener-DatabaseOpener mid old c.serve.new.databases.machine same words c.in-Serve.serving c.serve.result said.serve.2 said.serve.1 c.serve.ensures.done c.serve.ensures.fault c.serve.ensures.why in
+    let ended = has_served g.H.Store.Store g.H-Opener-DatabaseOpener mid old c.serve.new.databases.opener same words c.in-Serve.serving c.serve.result said.serve.2 said.serve.1 c.serve.ensures.done c.serve.ensures.fault c.serve.ensures.why in
     serves words said.serve.0 ended
 
 pub returns-in-Submit : goal.returns-in-Submit
@@ -31,7 +31,7 @@ returns-in-Submit g c =
     let all : c.program-next.new.databases ≡ c.args.databases.now = said.unopened (ap database_of said.submit.0.1) in
     let unread : remaining c.program-next.new.input ≡ remaining c.args.input.now =
     subst (λ asked. LeavesInput asked (remaining c.args.input.now) (remaining c.program-next.new.input)) said.submit.0.1 said.unread in
-    submits (record { verbose = c.in-Submit.submitting.is_verbose; server = said.submit.0.0; file = path_of c.in-Submit.submitting.file }) said.submit.0.1 (same_at c.args.databases.now c.program-next.new.databases (λ d. d.machine) all)
+    submits (record { verbose = c.in-Submit.submitting.is_verbose; server = said.submit.0.0; file = path_of c.in-Submit.submitting.file }) said.submit.0.1 (same_at c.args.databases.now c.program-next.new.databases (λ d. d.opener) all)
     (submits_from _ c.in-Submit.submitting.server said.submit.0.2 c.args.databases.now c.program-next.new.databases all (remaining c.args.input.now) (remaining c.program-next.new.input) unread
     (λ databases input. sources_of g.H.Files.ReadFiles.opens g.H.Files.Opened.Read.remaining databases.files.now g.H.Net.LocalNet.reaches g.H.Net.Stream.Read.remaining databases.rt input)
     (contents c.program-next.new.output) (contents c.args.output.now) (contents sent.new.output) said.submit.1 sent.result sent.ensures.run sent.ensures.whole)
@@ -39,16 +39,16 @@ returns-in-Submit g c =
 pub returns-in-Ask : goal.returns-in-Ask
 returns-in-Ask g c =
     let said = c.in-Ask.ensures in
-    let old = c.args.databases.now.machine in
-    let mid = c.program-next.new.databases.machine in
-    let new = c.answer_question-status.new.databases.machine in
+    let old = c.args.databases.now.opener in
+    let mid = c.program-next.new.databases.opener in
+    let new = c.answer_question-status.new.databases.opener in
     let contents = g.H.Output.Write.contents in
     let writer0 = contents c.args.output.now in
     let writer_mid = contents c.program-next.new.output in
     let writer = contents c.answer_question-status.new.output in
     let asked = c.answer_question-status in
     let words = arguments c.args.words.now in
-    let same : mid ≡ old = same_at c.args.databases.now c.program-next.new.databases (λ d. d.machine) (said.unopened (ap database_of said.ask.0)) in
+    let same : mid ≡ old = same_at c.args.databases.now c.program-next.new.databases (λ d. d.opener) (said.unopened (ap database_of said.ask.0)) in
     let remaining = g.H.Input.Read.remaining in
     let all : c.program-next.new.databases ≡ c.args.databases.now = said.unopened (ap database_of said.ask.0) in
     let unread : remaining c.program-next.new.input ≡ remaining c.args.input.now =

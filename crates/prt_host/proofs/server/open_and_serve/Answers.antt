@@ -10,7 +10,7 @@ returns-in-None-clause-ok g c =
     let made = c.in-Ok.ensures.opened in
     let left = c.listen_and_serve-failure.ensures.left in
     record {
-      between = c.open_publisher-opened.new.machine;
+      between = c.open_publisher-opened.new.opener;
       first = made.was;
       last = c.listen_and_serve-failure.result.1;
       is_opened = made.found;
@@ -24,7 +24,7 @@ returns-in-Some-clause-err g c =
     let left = c.listen_and_serve-failure.ensures.left in
     inr (
       record {
-        between = c.open_publisher-opened.new.machine;
+        between = c.open_publisher-opened.new.opener;
         first = made.was;
         last = c.listen_and_serve-failure.result.1;
         is_opened = made.found;

@@ -9,14 +9,14 @@ returns-in-Ok-clause-opened g c =
     let made = c.in-Ok.ensures.ok in
     record {
       was = made.was;
-      found = subst (λ (r : Result (Held _) _). IfOk r (g.M.DatabaseOpener.opens c.args.wanted c.args.machine.now c.open.new.self c.args.path.now)) made.found c.open.ensures.opened;
+      found = subst (λ (r : Result (Held _) _). IfOk r (g.M.DatabaseOpener.opens c.args.wanted c.args.opener.now c.open.new.self c.args.path.now)) made.found c.open.ensures.opened;
       format = made.format;
       opened = made.opened;
       begun = made.begun;
     }
 
 pub returns-in-Ok-clause-there : goal.returns-in-Ok-clause-there
-returns-in-Ok-clause-there g c = λ ours. subst (λ (r : Result (Held _) _). OnOk r (g.M.DatabaseOpener.is_there c.args.machine.now c.args.path.now)) c.in-Ok.ensures.ok.found (c.open.ensures.there ours)
+returns-in-Ok-clause-there g c = λ ours. subst (λ (r : Result (Held _) _). OnOk r (g.M.DatabaseOpener.is_there c.args.opener.now c.args.path.now)) c.in-Ok.ensures.ok.found (c.open.ensures.there ours)
 
 pub returns-in-Err-default-Ok-clause-closed : goal.returns-in-Err-default-Ok-clause-closed
 returns-in-Err-default-Ok-clause-closed g c =
@@ -26,7 +26,7 @@ returns-in-Err-default-Ok-clause-closed g c =
       between = c.open.new.self;
       first = refused.was;
       last = closed.0;
-      is_opened = subst (λ (r : Result (Held _) _). IfOk r (g.M.DatabaseOpener.opens c.args.wanted c.args.machine.now c.open.new.self c.args.path.now)) refused.found c.open.ensures.opened;
+      is_opened = subst (λ (r : Result (Held _) _). IfOk r (g.M.DatabaseOpener.opens c.args.wanted c.args.opener.now c.open.new.self c.args.path.now)) refused.found c.open.ensures.opened;
       made = (c.in-Err-default-Ok.conn, refused.refused, closed.1);
       is_closed = closed.2;
     })

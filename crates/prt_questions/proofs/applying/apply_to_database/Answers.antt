@@ -9,10 +9,10 @@ returns-clause-whole g c = λ done.
     let made = c.apply_to_publisher-status.ensures in
     let left : Leaves g.H.Store.Store c.in-Ok.made.0 c.end-last.result = record { done = c.apply_to_publisher-status.new.publisher; its = sym c.end-last.ensures.tables; quiet = made.quiet; file = made.file; stands = c.end-last.ensures.stands } in
     record {
-      between = c.open_publisher-opened.new.machine;
+      between = c.open_publisher-opened.new.opener;
       first = opened.was;
       last = c.end-last.result;
-      is_opened = subst (λ wanted. g.H-Opener-DatabaseOpener.opens wanted c.args.databases.now.machine c.open_publisher-opened.new.machine c.args.path.now opened.was) c.wanted_by.ensures opened.found;
+      is_opened = subst (λ wanted. g.H-Opener-DatabaseOpener.opens wanted c.args.databases.now.opener c.open_publisher-opened.new.opener c.args.path.now opened.was) c.wanted_by.ensures opened.found;
       made = (c.in-Ok.made.0, over_found g.H.Store.Store _ _ opened, (left, makes_tables c.args.manner.is_dry_run c.args.wanted.now left made.dry (made.made done) (made.together done)), made.whole done);
       is_closed = c.close_at.ensures;
     }
@@ -23,10 +23,10 @@ returns-clause-at_most g c =
     let made = c.apply_to_publisher-status.ensures in
     let left : Leaves g.H.Store.Store c.in-Ok.made.0 c.end-last.result = record { done = c.apply_to_publisher-status.new.publisher; its = sym c.end-last.ensures.tables; quiet = made.quiet; file = made.file; stands = c.end-last.ensures.stands } in
     inr (record {
-      between = c.open_publisher-opened.new.machine;
+      between = c.open_publisher-opened.new.opener;
       first = opened.was;
       last = c.end-last.result;
-      is_opened = subst (λ wanted. g.H-Opener-DatabaseOpener.opens wanted c.args.databases.now.machine c.open_publisher-opened.new.machine c.args.path.now opened.was) c.wanted_by.ensures opened.found;
+      is_opened = subst (λ wanted. g.H-Opener-DatabaseOpener.opens wanted c.args.databases.now.opener c.open_publisher-opened.new.opener c.args.path.now opened.was) c.wanted_by.ensures opened.found;
       made = (c.in-Ok.made.0, over_found g.H.Store.Store _ _ opened, (left, made.dry), made.part);
       is_closed = c.close_at.ensures;
     })

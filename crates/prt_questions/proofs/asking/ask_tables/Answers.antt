@@ -22,7 +22,7 @@ returns-in-Some-clause-whole g c = λ done.
     let place = c.in-Some.place in
     let told =
     subst (λ line. (text : List ℕ) × IsTold (from.tells place) (from.replies place line) inquiry text × Appends writer0 writer text) c.deref.ensures.value (c.ask_by_line.ensures.whole done) in
-    or_query c.in-Some.ensures.1 (rw c.in-Some.ensures.0 (told_whole g.H.Store.Store g.H-Opener-DatabaseOpener from c.args.databases.now.machine writer0 writer place c.args.asking.now.line.items inquiry told.0 c.in-Some.ensures.1 told.1 told.2))
+    or_query c.in-Some.ensures.1 (rw c.in-Some.ensures.0 (told_whole g.H.Store.Store g.H-Opener-DatabaseOpener from c.args.databases.now.opener writer0 writer place c.args.asking.now.line.items inquiry told.0 c.in-Some.ensures.1 told.1 told.2))
 
 pub returns-in-Some-clause-at_most : goal.returns-in-Some-clause-at_most
 returns-in-Some-clause-at_most g c =
@@ -33,7 +33,7 @@ returns-in-Some-clause-at_most g c =
     let place = c.in-Some.place in
     let part =
     subst (λ line. (writer ≡ writer0) ⊎ ((text : List ℕ) × IsTold (from.tells place) (from.replies place line) inquiry text × IsCutOff text writer0 writer)) c.deref.ensures.value c.ask_by_line.ensures.part in
-    or_query c.in-Some.ensures.1 (rw c.in-Some.ensures.0 (told_at_most g.H.Store.Store g.H-Opener-DatabaseOpener from c.args.databases.now.machine writer0 writer place c.args.asking.now.line.items inquiry part))
+    or_query c.in-Some.ensures.1 (rw c.in-Some.ensures.0 (told_at_most g.H.Store.Store g.H-Opener-DatabaseOpener from c.args.databases.now.opener writer0 writer place c.args.asking.now.line.items inquiry part))
 
 pub ask_by_line-requires : goal.ask_by_line-requires
 ask_by_line-requires g c =

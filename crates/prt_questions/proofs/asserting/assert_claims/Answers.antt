@@ -13,7 +13,7 @@ returns-clause-found g c = λ status.
     let file = path_of c.args.asserting.now.file in
     let writer = g.H.Output.Write.contents c.assert_over.new.output in
     let state = c.in-Ok.tables.version in
-    found_of g.H.Store.Store g.H-Opener-DatabaseOpener from c.args.databases.now.machine c.tables_at.new.databases.machine source c.in-Ok.tables.left state c.assert_over.result
+    found_of g.H.Store.Store g.H-Opener-DatabaseOpener from c.args.databases.now.opener c.tables_at.new.databases.opener source c.in-Ok.tables.left state c.assert_over.result
     (IsAsserted (Gives (after (rest_by source) from) file) (g.H.Output.Write.contents c.args.output.now) writer c.args.asserting.now c.assert_over.result) c.in-Ok.ensures.read c.assert_over.ensures.left
     (asserted_by _ _ (later from.files (rest_by source) from.input (g.H.Input.Read.remaining c.tables_at.new.input) c.in-Ok.ensures.rest file) _ writer c.args.asserting.now _ state
     (subst (λ first. IsAsserted (IsRead (IsFileOf g.H.Files.ReadFiles.opens g.H.Files.Opened.Read.remaining c.args.databases.now.files.now) (g.H.Input.Read.remaining c.tables_at.new.input) (path_of c.args.asserting.now.file)) first writer c.args.asserting.now c.assert_over.result state) c.in-Ok.ensures.unwritten (c.assert_over.ensures.found status)))
@@ -25,7 +25,7 @@ returns-clause-at_most g c =
     let file = path_of c.args.asserting.now.file in
     let writer = g.H.Output.Write.contents c.assert_over.new.output in
     let state = c.in-Ok.tables.version in
-    inr (of_tables g.H.Store.Store g.H-Opener-DatabaseOpener from c.args.databases.now.machine c.tables_at.new.databases.machine source c.in-Ok.tables.left state
+    inr (of_tables g.H.Store.Store g.H-Opener-DatabaseOpener from c.args.databases.now.opener c.tables_at.new.databases.opener source c.in-Ok.tables.left state
     (IsAssertedAtMost (Gives (after (rest_by source) from) file) (g.H.Output.Write.contents c.args.output.now) writer c.args.asserting.now) c.in-Ok.ensures.read
     (asserted_at_most_by _ _ (later from.files (rest_by source) from.input (g.H.Input.Read.remaining c.tables_at.new.input) c.in-Ok.ensures.rest file) _ writer c.args.asserting.now state
     (subst (λ first. IsAssertedAtMost (IsRead (IsFileOf g.H.Files.ReadFiles.opens g.H.Files.Opened.Read.remaining c.args.databases.now.files.now) (g.H.Input.Read.remaining c.tables_at.new.input) (path_of c.args.asserting.now.file)) first writer c.args.asserting.now state) c.in-Ok.ensures.unwritten c.assert_over.ensures.at_most)))
@@ -37,7 +37,7 @@ returns-clause-unreadable g c = λ status.
     let file = path_of c.args.asserting.now.file in
     let writer = g.H.Output.Write.contents c.assert_over.new.output in
     let state = c.in-Ok.tables.version in
-    found_of g.H.Store.Store g.H-Opener-DatabaseOpener from c.args.databases.now.machine c.tables_at.new.databases.machine source c.in-Ok.tables.left state UNREADABLE
+    found_of g.H.Store.Store g.H-Opener-DatabaseOpener from c.args.databases.now.opener c.tables_at.new.databases.opener source c.in-Ok.tables.left state UNREADABLE
     (IsUnreadable (Gives (after (rest_by source) from) file) (g.H.Output.Write.contents c.args.output.now) writer) c.in-Ok.ensures.read (λ is. absurd (cc is))
     (unreadable_by _ _ (later from.files (rest_by source) from.input (g.H.Input.Read.remaining c.tables_at.new.input) c.in-Ok.ensures.rest file) _ writer state
     (subst (λ first. IsUnreadable (IsRead (IsFileOf g.H.Files.ReadFiles.opens g.H.Files.Opened.Read.remaining c.args.databases.now.files.now) (g.H.Input.Read.remaining c.tables_at.new.input) (path_of c.args.asserting.now.file)) first writer state) c.in-Ok.ensures.unwritten (c.assert_over.ensures.unreadable status)))

@@ -12,7 +12,7 @@ returns-clause-found g c = λ status.
     let file = path_of c.args.rehearsing.now.file in
     let writer = g.H.Output.Write.contents c.rehearse_over.new.output in
     let state = c.in-Ok.tables.version in
-    found_of g.H.Store.Store g.H-Opener-DatabaseOpener from c.args.databases.now.machine c.tables_at.new.databases.machine source c.in-Ok.tables.left state c.rehearse_over.result
+    found_of g.H.Store.Store g.H-Opener-DatabaseOpener from c.args.databases.now.opener c.tables_at.new.databases.opener source c.in-Ok.tables.left state c.rehearse_over.result
     (IsRehearsed (Gives (after (rest_by source) from) file) (g.H.Output.Write.contents c.args.output.now) writer c.args.rehearsing.now c.rehearse_over.result) c.in-Ok.ensures.read c.rehearse_over.ensures.left
     (rehearsed_by _ _ (later from.files (rest_by source) from.input (g.H.Input.Read.remaining c.tables_at.new.input) c.in-Ok.ensures.rest file) _ writer c.args.rehearsing.now _ state
     (subst (λ first. IsRehearsed (IsRead (IsFileOf g.H.Files.ReadFiles.opens g.H.Files.Opened.Read.remaining c.args.databases.now.files.now) (g.H.Input.Read.remaining c.tables_at.new.input) (path_of c.args.rehearsing.now.file)) first writer c.args.rehearsing.now c.rehearse_over.result state) c.in-Ok.ensures.unwritten (c.rehearse_over.ensures.found status)))
@@ -24,7 +24,7 @@ returns-clause-at_most g c =
     let file = path_of c.args.rehearsing.now.file in
     let writer = g.H.Output.Write.contents c.rehearse_over.new.output in
     let state = c.in-Ok.tables.version in
-    inr (of_tables g.H.Store.Store g.H-Opener-DatabaseOpener from c.args.databases.now.machine c.tables_at.new.databases.machine source c.in-Ok.tables.left state
+    inr (of_tables g.H.Store.Store g.H-Opener-DatabaseOpener from c.args.databases.now.opener c.tables_at.new.databases.opener source c.in-Ok.tables.left state
     (IsRehearsedAtMost (Gives (after (rest_by source) from) file) (g.H.Output.Write.contents c.args.output.now) writer c.args.rehearsing.now) c.in-Ok.ensures.read
     (rehearsed_at_most_by _ _ (later from.files (rest_by source) from.input (g.H.Input.Read.remaining c.tables_at.new.input) c.in-Ok.ensures.rest file) _ writer c.args.rehearsing.now state
     (subst (λ first. IsRehearsedAtMost (IsRead (IsFileOf g.H.Files.ReadFiles.opens g.H.Files.Opened.Read.remaining c.args.databases.now.files.now) (g.H.Input.Read.remaining c.tables_at.new.input) (path_of c.args.rehearsing.now.file)) first writer c.args.rehearsing.now state) c.in-Ok.ensures.unwritten c.rehearse_over.ensures.at_most)))

@@ -12,7 +12,7 @@ returns-clause-whole g c = λ done.
     let writer0 = g.H.Output.Write.contents c.args.output.now in
     let fence = c.args.comparison.now.fence.now in
     let found = c.args.comparison.now.found.now in
-    of_tables g.H.Store.Store g.H-Opener-DatabaseOpener from c.args.databases.now.machine c.tables_at.new.databases.machine c.args.source.now c.in-Ok.tables.left c.in-Ok.tables.version
+    of_tables g.H.Store.Store g.H-Opener-DatabaseOpener from c.args.databases.now.opener c.tables_at.new.databases.opener c.args.source.now c.in-Ok.tables.left c.in-Ok.tables.version
     (λ state. (text : List ℕ) × IsWithImpact fence found state text × Appends writer0 writer text × IsWholeChange fence found state) c.in-Ok.ensures.read
     (subst (λ first. (text : List ℕ) × IsWithImpact fence found c.in-Ok.tables.version text × Appends first writer text × IsWholeChange fence found c.in-Ok.tables.version) c.in-Ok.ensures.unwritten (c.write_difference.ensures.whole done))
 
@@ -23,6 +23,6 @@ returns-clause-at_most g c =
     let writer0 = g.H.Output.Write.contents c.args.output.now in
     let fence = c.args.comparison.now.fence.now in
     let found = c.args.comparison.now.found.now in
-    of_tables_at_most g.H.Store.Store g.H-Opener-DatabaseOpener from c.args.databases.now.machine c.tables_at.new.databases.machine c.args.source.now c.in-Ok.tables.left c.in-Ok.tables.version
+    of_tables_at_most g.H.Store.Store g.H-Opener-DatabaseOpener from c.args.databases.now.opener c.tables_at.new.databases.opener c.args.source.now c.in-Ok.tables.left c.in-Ok.tables.version
     (writer ≡ writer0) (λ state. (text : List ℕ) × IsWithImpact fence found state text × IsCutOff text writer0 writer) c.in-Ok.ensures.read
     (subst (λ first. (writer ≡ first) ⊎ ((text : List ℕ) × IsWithImpact fence found c.in-Ok.tables.version text × IsCutOff text first writer)) c.in-Ok.ensures.unwritten c.write_difference.ensures.part)

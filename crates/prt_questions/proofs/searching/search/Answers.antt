@@ -9,7 +9,7 @@ returns-clause-found g c = λ status.
     let from = sources_of g.H.Files.ReadFiles.opens g.H.Files.Opened.Read.remaining c.args.databases.now.files.now g.H.Net.LocalNet.reaches g.H.Net.Stream.Read.remaining c.args.databases.now.rt (g.H.Input.Read.remaining c.args.input.now) in
     let writer = g.H.Output.Write.contents c.search_over.new.output in
     let writer0 = g.H.Output.Write.contents c.args.output.now in
-    found_of g.H.Store.Store g.H-Opener-DatabaseOpener from c.args.databases.now.machine c.tables_at.new.databases.machine c.args.source.now c.in-Ok.tables.left c.in-Ok.tables.version c.search_over.result (IsSearched writer0 writer c.search_over.result) c.in-Ok.ensures.read c.search_over.ensures.left
+    found_of g.H.Store.Store g.H-Opener-DatabaseOpener from c.args.databases.now.opener c.tables_at.new.databases.opener c.args.source.now c.in-Ok.tables.left c.in-Ok.tables.version c.search_over.result (IsSearched writer0 writer c.search_over.result) c.in-Ok.ensures.read c.search_over.ensures.left
     (subst (λ first. IsSearched first writer c.search_over.result c.in-Ok.tables.version) c.in-Ok.ensures.unwritten (c.search_over.ensures.found status))
 
 pub returns-clause-at_most : goal.returns-clause-at_most
@@ -17,5 +17,5 @@ returns-clause-at_most g c =
     let from = sources_of g.H.Files.ReadFiles.opens g.H.Files.Opened.Read.remaining c.args.databases.now.files.now g.H.Net.LocalNet.reaches g.H.Net.Stream.Read.remaining c.args.databases.now.rt (g.H.Input.Read.remaining c.args.input.now) in
     let writer = g.H.Output.Write.contents c.search_over.new.output in
     let writer0 = g.H.Output.Write.contents c.args.output.now in
-    inr (of_tables g.H.Store.Store g.H-Opener-DatabaseOpener from c.args.databases.now.machine c.tables_at.new.databases.machine c.args.source.now c.in-Ok.tables.left c.in-Ok.tables.version (IsSearchedAtMost writer0 writer) c.in-Ok.ensures.read
+    inr (of_tables g.H.Store.Store g.H-Opener-DatabaseOpener from c.args.databases.now.opener c.tables_at.new.databases.opener c.args.source.now c.in-Ok.tables.left c.in-Ok.tables.version (IsSearchedAtMost writer0 writer) c.in-Ok.ensures.read
     (subst (λ first. IsSearchedAtMost first writer c.in-Ok.tables.version) c.in-Ok.ensures.unwritten c.search_over.ensures.at_most))

@@ -9,7 +9,7 @@ returns-in-Ok-shared-clause-read g c =
     let opened = c.in-Ok.ensures.opened in
     let stored = line_state c.in-Ok.desk.line in
     record {
-      between = c.open_desk-opened.new.machine;
+      between = c.open_desk-opened.new.opener;
       first = opened.was;
       last = c.end.result;
       is_opened = opened.found;
@@ -22,7 +22,7 @@ returns-in-Err-shared-clause-unread g c =
     let opened = c.in-Ok.ensures.opened in
     let stored = line_state c.in-Ok.desk.line in
     inr (record {
-      between = c.open_desk-opened.new.machine;
+      between = c.open_desk-opened.new.opener;
       first = opened.was;
       last = c.end.result;
       is_opened = opened.found;

@@ -2,7 +2,7 @@ use Rattle.std.proofs.Common.{of_calls, subst, sym}
 use Rattle.prt_published.proofs.Prefixes.{begins_trans}
 use Rattle.prt_serve.proofs.Jobs.{ServesEach-more, counted_more}
 use Rattle.prt_serve.specs.Jobs.{ServesKind}
-use Rattle.prt_serve.specs.declared.worker.Kind.{Kind}
+use Rattle.prt_serve.specs.declared.worker.SessionKind.{SessionKind}
 use Rattle.prt_serve.proofs.context.ServiceContext.serve_jobs.Goals as goal
 
 pub loop-job-preserved-in-InTurn : goal.loop-job-preserved-in-InTurn
@@ -23,7 +23,7 @@ loop-job-preserved-in-InTurn g c =
             left = record { job = left; end = c.serve_job-end.result };
             session = ran.session;
             kind = ran.kind;
-            served = subst (λ (kind : Kind). ServesKind kind known next (g.R.Read.remaining job.reader) (g.R.Read.remaining left.reader) (g.W.Write.contents job.writer) (g.W.Write.contents left.writer) c.serve_job-end.result) (sym c.in-InTurn.is) ran.served;
+            served = subst (λ (kind : SessionKind). ServesKind kind known next (g.R.Read.remaining job.reader) (g.R.Read.remaining left.reader) (g.W.Write.contents job.writer) (g.W.Write.contents left.writer) c.serve_job-end.result) (sym c.in-InTurn.is) ran.served;
             taken = c.after.ensures;
           });
       counted = counted_more c.loop-job.yielded job c.loop-job.served c.saturating_add-served.result now.counted c.saturating_add-served.ensures;
@@ -48,7 +48,7 @@ loop-job-preserved g c =
             left = left;
             session = ran.session;
             kind = ran.kind;
-            served = subst (λ (kind : Kind). ServesKind kind known next (g.R.Read.remaining job.reader) (g.R.Read.remaining left.job.reader) (g.W.Write.contents job.writer) (g.W.Write.contents left.job.writer) left.end) (sym c.in-Together.is) ran.served;
+            served = subst (λ (kind : SessionKind). ServesKind kind known next (g.R.Read.remaining job.reader) (g.R.Read.remaining left.job.reader) (g.W.Write.contents job.writer) (g.W.Write.contents left.job.writer) left.end) (sym c.in-Together.is) ran.served;
             taken = c.after-in-Together.ensures;
           });
       counted = counted_more c.loop-job.yielded job c.loop-job.served c.saturating_add-served.result now.counted c.saturating_add-served.ensures;

@@ -1,6 +1,6 @@
 use Rattle.std.proofs.Common.{arith}
 use Rattle.prt_serve.proofs.Heads.{head_end, head_fault, head_full, head_more, head_newline, no_head}
-use Rattle.prt_serve.proofs.announcement.read_head.Goals as goal
+use Rattle.prt_serve.proofs.script_header.read_head.Goals as goal
 
 pub loop-count-init : goal.loop-count-init
 loop-count-init g c = no_head _ _ c.clear.ensures

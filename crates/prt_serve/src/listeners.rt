@@ -1,8 +1,8 @@
-//! A server at all its entrances: sessions, feeds and the status.
+//! A server at all its listeners: sessions, feeds and the status.
 ghost use Rattle.std.specs.Prelude.{◌≡◌, ◌≢◌, None, vec_len};
 ghost use denote.Param.Send.{IsSend, IsSync};
 
-use crate::accept_loop::{Accepting, Entrance};
+use crate::accept_loop::{Accepting, SessionListener};
 use crate::context::{ServiceContext, SharedServing};
 use crate::feeding::serve_and_feed;
 use crate::status_clients::report_all;
@@ -14,9 +14,9 @@ use std::thread;
 
 /// Where connections come from.
 #[derive(Drop)]
-pub struct Entrances<L: Drop> {
+pub struct Listeners<L: Drop> {
     /// For sessions.
-    pub sessions: Vec<Entrance<L>>,
+    pub sessions: Vec<SessionListener<L>>,
     /// For those that follow the changes.
     pub feeds: Vec<L>,
     /// For those that ask for the status.
@@ -28,10 +28,10 @@ fn serve_with_feeds<
     C: SharedServing,
     T: Read + Write + OpenStream + Drop + Send,
     L: OpenListener<Stream = T> + Drop + Sync,
->(context: &ServiceContext<'_, C>, entrances: &Entrances<L>, limits: Limits) -> Worked<C::Brand>
+>(context: &ServiceContext<'_, C>, listeners: &Listeners<L>, limits: Limits) -> Worked<C::Brand>
     ensures { result.end.accepting ≢ Accepting.Failed → result.end.refused ≡ None → vec_len result.shifts ≡ limits.workers }
 {
-    let (sessions, feeds) = (entrances.sessions.as_slice(), entrances.feeds.as_slice());
+    let (sessions, feeds) = (listeners.sessions.as_slice(), listeners.feeds.as_slice());
     if feeds.is_empty() {
         serve_sessions(context, sessions, limits)
     } else {
@@ -44,15 +44,15 @@ fn serve_with_feeds<
 ///
 /// A client that asks gets the gate's status, and its connection is closed. One thread answers all, and waits 5 seconds for
 /// one of them at most. What they send is not read.
-pub fn serve_entrances<
+pub fn serve_listeners<
     C: SharedServing,
     T: Read + Write + OpenStream + Drop + Send,
     L: OpenListener<Stream = T> + Drop + Sync,
->(context: &ServiceContext<'_, C>, entrances: &Entrances<L>, limits: Limits) -> Worked<C::Brand>
+>(context: &ServiceContext<'_, C>, listeners: &Listeners<L>, limits: Limits) -> Worked<C::Brand>
     ensures { result.end.accepting ≢ Accepting.Failed → result.end.refused ≡ None → vec_len result.shifts ≡ limits.workers }
 {
-    let Some(listener) = &entrances.status else {
-        return serve_with_feeds(context, entrances, limits);
+    let Some(listener) = &listeners.status else {
+        return serve_with_feeds(context, listeners, limits);
     };
     let is_ended = AtomicBool::new(false);
     let (own, is_over) = (*context, &is_ended);
@@ -63,7 +63,7 @@ pub fn serve_entrances<
         move ||
             requires { IsSync C.row × IsSync C.Handle.row × IsSend C.Store.row × IsSend C.Brand.row × IsSync C.Gate.row × IsSend T.row × IsSync L.row }
         {
-            let worked = serve_with_feeds(&own, entrances, limits);
+            let worked = serve_with_feeds(&own, listeners, limits);
             is_over.store(true, Ordering::SeqCst);
             worked
         },

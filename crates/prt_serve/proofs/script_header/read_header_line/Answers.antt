@@ -1,9 +1,9 @@
 use Rattle.std.proofs.Common.{◌≡◌, ◌≢◌, ◌<◌, ◌^◌, ℕ, List, refl, subst}
 use Rattle.prt_serve.proofs.Heads.{IsNoNumber, file_end, file_full, file_newline}
-use Rattle.prt_serve.specs.Announcement.{HeadIs}
-use Rattle.prt_serve.specs.declared.announcement.HeadEnd.{HeadEnd}
-use Rattle.prt_serve.specs.declared.announcement.HeadEnd.TheVariants as ends
-use Rattle.prt_serve.proofs.announcement.read_announced.Goals as goal
+use Rattle.prt_serve.specs.ScriptHeader.{HeadIs}
+use Rattle.prt_serve.specs.declared.script_header.HeadEnd.{HeadEnd}
+use Rattle.prt_serve.specs.declared.script_header.HeadEnd.TheVariants as ends
+use Rattle.prt_serve.proofs.script_header.read_header_line.Goals as goal
 
 -- at the end of the input, if nowhere else
 at_end : (end : HeadEnd) → end ≢ ends.Fault → end ≢ ends.Full → end ≢ ends.Newline → end ≡ ends.End

@@ -2,7 +2,7 @@
 
 use prt_args::ServeArgs;
 use prt_machine::{ServerNet, Socket};
-use prt_serve::{Entrance, Entrances, Kind};
+use prt_serve::{Listeners, SessionKind, SessionListener};
 use std::alloc::Global;
 use std::fmt;
 use std::io::{self, ErrorKind, Write};
@@ -96,15 +96,15 @@ impl SocketFile {
 
 /// Where a server listens, and the socket files that it made.
 #[derive(Drop)]
-pub(crate) struct Doors<N: ServerNet> {
-    pub(crate) entrances: Entrances<N::Door>,
+pub(crate) struct Listening<N: ServerNet> {
+    pub(crate) listeners: Listeners<N::ServerListener>,
     files: Vec<SocketFile>,
 }
 
-impl<N: ServerNet> Doors<N> {
-    fn new(alloc: Global) -> Doors<N> {
-        Doors {
-            entrances: Entrances {
+impl<N: ServerNet> Listening<N> {
+    fn new(alloc: Global) -> Listening<N> {
+        Listening {
+            listeners: Listeners {
                 sessions: Vec::new(alloc),
                 feeds: Vec::new(alloc),
                 status: None,
@@ -114,18 +114,20 @@ impl<N: ServerNet> Doors<N> {
     }
 
     /// Adds a listener for sessions.
-    fn add_sessions(&mut self, listener: N::Door, kind: Kind) -> io::Result<()> {
-        self.entrances.sessions.push(Entrance { listener, kind })?;
+    fn add_sessions(&mut self, listener: N::ServerListener, kind: SessionKind) -> io::Result<()> {
+        self.listeners
+            .sessions
+            .push(SessionListener { listener, kind })?;
         Ok(())
     }
 
     /// Adds a listener for what a socket is for.
-    fn add(&mut self, socket: Socket, listener: N::Door) -> io::Result<()> {
+    fn add(&mut self, socket: Socket, listener: N::ServerListener) -> io::Result<()> {
         match socket {
-            Socket::Status => self.entrances.status = Some(listener),
-            Socket::Session => self.add_sessions(listener, Kind::InTurn)?,
-            Socket::Atomic => self.add_sessions(listener, Kind::Together)?,
-            Socket::Feed => self.entrances.feeds.push(listener)?,
+            Socket::Status => self.listeners.status = Some(listener),
+            Socket::Session => self.add_sessions(listener, SessionKind::InTurn)?,
+            Socket::Atomic => self.add_sessions(listener, SessionKind::Together)?,
+            Socket::Feed => self.listeners.feeds.push(listener)?,
         }
         Ok(())
     }
@@ -181,10 +183,10 @@ impl<N: ServerNet> Doors<N> {
 }
 
 /// Listens at a port. Returns the address too, in which port 0 is a free one.
-fn bind<N: ServerNet>(rt: &N, place: SocketAddrV4) -> io::Result<(N::Door, SocketAddr)> {
-    let door = rt.at_address(place)?;
-    let address = door.local_addr()?;
-    Ok((door, address))
+fn bind<N: ServerNet>(rt: &N, place: SocketAddrV4) -> io::Result<(N::ServerListener, SocketAddr)> {
+    let listener = rt.at_address(place)?;
+    let address = listener.local_addr()?;
+    Ok((listener, address))
 }
 
 /// Says on `output` that a server listens at a place, after this word.
@@ -210,7 +212,7 @@ fn named<T>(place: Place<'_>, done: io::Result<T>) -> Result<T, PlaceError<'_>> 
 
 /// Listens at a port for what a socket is for, if one is asked for, and says where on `output`, after this word.
 fn open_port<N: ServerNet, W: Write>(
-    doors: &mut Doors<N>,
+    listening: &mut Listening<N>,
     rt: &N,
     socket: Socket,
     asked: Option<SocketAddrV4>,
@@ -220,41 +222,48 @@ fn open_port<N: ServerNet, W: Write>(
     let Some(place) = asked else {
         return Ok(());
     };
-    let (door, address) = named(Place::Address(place), bind(rt, place))?;
-    named(Place::Address(place), doors.add(socket, door))?;
+    let (listener, address) = named(Place::Address(place), bind(rt, place))?;
+    named(Place::Address(place), listening.add(socket, listener))?;
     tell_place(word, &address, output)
 }
 
 /// Listens at the ports that are asked for.
 fn open_ports<N: ServerNet, W: Write>(
-    doors: &mut Doors<N>,
+    listening: &mut Listening<N>,
     rt: &N,
     asked: &ServeArgs<'_>,
     output: &mut W,
 ) -> Result<(), PlaceError<'static>> {
     open_port(
-        doors,
+        listening,
         rt,
         Socket::Session,
         asked.listen,
         "listening",
         output,
     )?;
-    open_port(doors, rt, Socket::Atomic, asked.atomic, "atomic", output)?;
-    open_port(doors, rt, Socket::Feed, asked.feed, "feeding", output)
+    open_port(
+        listening,
+        rt,
+        Socket::Atomic,
+        asked.atomic,
+        "atomic",
+        output,
+    )?;
+    open_port(listening, rt, Socket::Feed, asked.feed, "feeding", output)
 }
 
 /// Listens at all places that are asked for.
 fn open_all<'a, N: ServerNet, W: Write>(
-    doors: &mut Doors<N>,
+    listening: &mut Listening<N>,
     rt: &N,
     alloc: Global,
     asked: &ServeArgs<'a>,
     output: &mut W,
 ) -> Result<(), PlaceError<'a>> {
-    open_ports(doors, rt, asked, output)?;
+    open_ports(listening, rt, asked, output)?;
     if let Some(directory) = asked.sockets {
-        doors.open_sockets(rt, alloc, directory)?;
+        listening.open_sockets(rt, alloc, directory)?;
         tell_place("sockets", &directory, output)?;
     }
     Ok(())
@@ -271,12 +280,12 @@ pub(crate) fn listen<'a, N: ServerNet, W: Write>(
     alloc: Global,
     asked: &ServeArgs<'a>,
     output: &mut W,
-) -> Result<Doors<N>, PlaceError<'a>> {
-    let mut doors = Doors::new(alloc);
-    match open_all(&mut doors, rt, alloc, asked, output) {
-        Ok(()) => Ok(doors),
+) -> Result<Listening<N>, PlaceError<'a>> {
+    let mut listening = Listening::new(alloc);
+    match open_all(&mut listening, rt, alloc, asked, output) {
+        Ok(()) => Ok(listening),
         Err(failure) => {
-            doors.remove_files(rt);
+            listening.remove_files(rt);
             Err(failure)
         }
     }

@@ -19,17 +19,17 @@ pub trait ServerNet: LocalNet {
     type Accepted: Read + Write + OpenStream + Drop + Send;
 
     /// A listener. An `accept` returns after 100 ms with `WouldBlock` if nobody comes.
-    type Door: OpenListener<Stream = Self::Accepted> + Drop + Sync;
+    type ServerListener: OpenListener<Stream = Self::Accepted> + Drop + Sync;
 
     /// Listens at a TCP port; port 0 is any free one.
-    fn at_address(&self, place: SocketAddrV4) -> io::Result<Self::Door>;
+    fn at_address(&self, place: SocketAddrV4) -> io::Result<Self::ServerListener>;
 
     /// Makes a socket file, and listens there. A socket file at which nobody listens goes before.
     ///
     /// # Errors
     ///
     /// The system's. `AddrInUse` if somebody listens there, `AlreadyExists` if the file is no socket: it stays as it is.
-    fn at_path(&self, path: &str) -> io::Result<Self::Door>;
+    fn at_path(&self, path: &str) -> io::Result<Self::ServerListener>;
 
     /// Returns the number of the inode of a file, by which it is known from one that is put in its place. `None` if there is
     /// none.
@@ -41,7 +41,7 @@ pub trait ServerNet: LocalNet {
 
 /// A listener at a TCP port or at a Unix socket.
 #[derive(Drop)]
-pub enum Door {
+pub enum ServerListener {
     Tcp(TcpListener),
     Local(UnixListener),
 }
@@ -90,18 +90,18 @@ fn bind_at<N: LocalNet, F: Files>(rt: &N, files: &F, path: &str) -> io::Result<U
 impl ServerNet for HostRuntime {
     type Accepted = TcpStream;
 
-    type Door = Door;
+    type ServerListener = ServerListener;
 
-    fn at_address(&self, place: SocketAddrV4) -> io::Result<Door> {
+    fn at_address(&self, place: SocketAddrV4) -> io::Result<ServerListener> {
         let listener = self.bind(SocketAddr::V4(place))?;
         HostRuntime::set_accept_timeout(&listener, Duration::from_millis(PATIENCE))?;
-        Ok(Door::Tcp(listener))
+        Ok(ServerListener::Tcp(listener))
     }
 
-    fn at_path(&self, path: &str) -> io::Result<Door> {
+    fn at_path(&self, path: &str) -> io::Result<ServerListener> {
         let listener = bind_at(self, self, path)?;
         set_local_accept_timeout(&listener, Duration::from_millis(PATIENCE))?;
-        Ok(Door::Local(listener))
+        Ok(ServerListener::Local(listener))
     }
 
     fn inode_at(&self, path: &str) -> Option<u64> {
@@ -125,13 +125,13 @@ pub fn is_local(client: &SocketAddr) -> bool {
     *client == local_client()
 }
 
-impl OpenListener for Door {
+impl OpenListener for ServerListener {
     type Stream = TcpStream;
 
     fn accept(&self) -> io::Result<(TcpStream, SocketAddr)> {
         let (stream, client) = match self {
-            Door::Tcp(listener) => listener.accept()?,
-            Door::Local(listener) => {
+            ServerListener::Tcp(listener) => listener.accept()?,
+            ServerListener::Local(listener) => {
                 let (stream, _) = listener.accept()?;
                 (HostRuntime::stream_of(stream), local_client())
             }
@@ -145,15 +145,15 @@ impl OpenListener for Door {
 
     fn local_addr(&self) -> io::Result<SocketAddr> {
         match self {
-            Door::Tcp(listener) => listener.local_addr(),
-            Door::Local(_) => Ok(local_client()),
+            ServerListener::Tcp(listener) => listener.local_addr(),
+            ServerListener::Local(_) => Ok(local_client()),
         }
     }
 
     fn set_nonblocking(&self, nonblocking: bool) -> io::Result<()> {
         match self {
-            Door::Tcp(listener) => listener.set_nonblocking(nonblocking),
-            Door::Local(listener) => listener.set_nonblocking(nonblocking),
+            ServerListener::Tcp(listener) => listener.set_nonblocking(nonblocking),
+            ServerListener::Local(listener) => listener.set_nonblocking(nonblocking),
         }
     }
 }

@@ -1,7 +1,7 @@
-//! What a connection of an atomic file may begin with: the lines `at N` and `commands K`, before the file's first line.
+//! What a connection of an atomic script may begin with: the lines `at N` and `commands K`, before the script's first line.
 ghost use Rattle.std.specs.Prelude.{◌≡◌, ◌≢◌, ◌<◌, ◌^◌, ◌++◌, ℕ, IfErr, IfOk, MatchOption, codes, false, is_some, true};
 ghost use Rattle.std.specs.Io.KnownBytes.{Consumes, prepend_known};
-ghost use Rattle.prt_serve.specs.Announcement.{AreAnnounced, HasLetGo, HeadIs, Opens, at_line, is_as_many, said_line, word_of};
+ghost use Rattle.prt_serve.specs.ScriptHeader.{HasHeader, HasDrained, HeadIs, Opens, at_line, is_as_many, said_line, word_of};
 ghost use Rattle.prt_serve.specs.Resumed.{resumed_remaining};
 
 use crate::resumed::Resumed;
@@ -14,12 +14,12 @@ use std::io::Read;
 /// Room for the longest line `at N` or `commands K`, and its newline.
 pub(crate) const LONGEST_HEAD: usize = 32;
 
-/// What a line before the file says, by a number.
+/// What a line of the header says, by a number.
 #[derive(Clone, Copy)]
 pub(crate) enum Saying {
     /// At which number the commands are to be made.
     At,
-    /// How many commands the file has.
+    /// How many commands the script has.
     Commands,
 }
 
@@ -93,7 +93,7 @@ fn read_head<R: Read>(reader: &mut R, head: &mut ArrayVec<u8, LONGEST_HEAD>) -> 
 /// # Errors
 ///
 /// `ReadFault` if the reader fails before the line is over; `head` has what was read.
-pub(crate) fn read_announced<R: Read>(
+pub(crate) fn read_header_line<R: Read>(
     saying: Saying,
     reader: &mut R,
     head: &mut ArrayVec<u8, LONGEST_HEAD>,
@@ -118,61 +118,61 @@ pub(crate) fn read_announced<R: Read>(
     Ok(None)
 }
 
-/// What a client says before its file.
+/// What a client says before its script.
 #[derive(Clone, Copy)]
-pub(crate) struct Announcement {
+pub(crate) struct ScriptHeader {
     /// At which number the commands are to be made.
     pub(crate) number: Option<u64>,
-    /// How many commands the file has.
+    /// How many commands the script has.
     pub(crate) count: Option<u64>,
 }
 
-impl Announcement {
-    /// Checks whether a file isn't whole that has so many commands, and whose last line has a newline or not.
-    pub(crate) fn is_cut_off(self, commands: usize, is_ended: bool) -> bool
+impl ScriptHeader {
+    /// Checks whether a script isn't whole, by its number of commands, and by whether its last line has a newline.
+    pub(crate) fn is_cut_off(self, commands: usize, ends_with_newline: bool) -> bool
         ensures whole { result ≡ false → is_as_many self.count commands ≡ true }
         ensures cut_off { result ≡ true → is_some self.count ≡ true }
     {
         match self.count {
-            Some(count) => !is_ended || commands as u64 != count,
+            Some(count) => !ends_with_newline || commands as u64 != count,
             None => false,
         }
     }
 }
 
-/// A reader that failed before the file.
+/// A reader that failed in the header, and why.
 #[derive(Drop)]
-pub(crate) struct AnnouncementError<R: Read + Drop> {
+pub(crate) struct HeaderError<R: Read + Drop> {
     pub(crate) reason: Refusal,
     pub(crate) reader: R,
 }
 
-/// Reads the lines before a file: `at N` and `commands K`, each if it is there. The reader that is returned has the rest.
+/// Reads the header of a script: `at N` and `commands K`, each if it is there. The reader that is returned has the rest.
 ///
 /// # Errors
 ///
-/// `ReadFault` if the reader fails before the file's first line is over.
-pub(crate) fn read_announcement<R: Read + Drop>(
+/// `ReadFault` if the reader fails before the script's first line is over.
+pub(crate) fn read_header<R: Read + Drop>(
     mut reader: R,
-) -> Result<(Announcement, Resumed<Resumed<R>>), AnnouncementError<R>>
-    ensures opens { IfOk result (λ opened. AreAnnounced opened.0 (R.remaining reader) (resumed_remaining (resumed_remaining R.remaining) opened.1)) }
-    ensures fault { IfErr result (λ failed. (failed.reason ≡ Refusal.ReadFault) × HasLetGo (R.remaining reader) (R.remaining failed.reader)) }
+) -> Result<(ScriptHeader, Resumed<Resumed<R>>), HeaderError<R>>
+    ensures opens { IfOk result (λ opened. HasHeader opened.0 (R.remaining reader) (resumed_remaining (resumed_remaining R.remaining) opened.1)) }
+    ensures fault { IfErr result (λ failed. (failed.reason ≡ Refusal.ReadFault) × HasDrained (R.remaining reader) (R.remaining failed.reader)) }
 {
     let mut head = ArrayVec::<u8, LONGEST_HEAD>::new();
-    let number = match read_announced(Saying::At, &mut reader, &mut head) {
+    let number = match read_header_line(Saying::At, &mut reader, &mut head) {
         Ok(number) => number,
-        Err(reason) => return Err(AnnouncementError { reason, reader }),
+        Err(reason) => return Err(HeaderError { reason, reader }),
     };
     let mut rest = Resumed::new(head, reader);
     let mut next = ArrayVec::<u8, LONGEST_HEAD>::new();
-    let count = match read_announced(Saying::Commands, &mut rest, &mut next) {
+    let count = match read_header_line(Saying::Commands, &mut rest, &mut next) {
         Ok(count) => count,
         Err(reason) => {
-            return Err(AnnouncementError {
+            return Err(HeaderError {
                 reason,
                 reader: rest.into_reader(),
             });
         }
     };
-    Ok((Announcement { number, count }, Resumed::new(next, rest)))
+    Ok((ScriptHeader { number, count }, Resumed::new(next, rest)))
 }

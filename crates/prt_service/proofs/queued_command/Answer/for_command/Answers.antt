@@ -1,6 +1,6 @@
 use Rattle.std.proofs.Common.{◌≡◌, ◌∙◌, sym}
 use Rattle.prt_service.proofs.SameCommand.{same_command}
-use Rattle.prt_service.proofs.waiting.Answer.for_command.Goals as goal
+use Rattle.prt_service.proofs.queued_command.Answer.for_command.Goals as goal
 
 pub returns-then-eq : goal.returns-then-eq
 returns-then-eq g c =

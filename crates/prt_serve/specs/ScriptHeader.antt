@@ -1,12 +1,12 @@
--- What a connection of an atomic file begins with.
+-- What a connection of an atomic script begins with.
 use Rattle.std.specs.Prelude.{◌≡◌, ◌≢◌, ◌<◌, ◌^◌, ◌==◌, ◌⊎◌, ℕ, Bool, true, List, [], ◌∷◌, ◌++◌, Option, Some, None, IfSome, codes, decimal}
 use Rattle.std.specs.Prelude.{if◌then◌else◌, length}
 use Rattle.std.specs.Io.KnownBytes.{Consumes, IsAtEnd, Keeps}
-use Rattle.prt_serve.specs.declared.announcement.Announcement.{Announcement}
-use Rattle.prt_serve.specs.declared.announcement.HeadEnd.{HeadEnd}
-use Rattle.prt_serve.specs.declared.announcement.HeadEnd.TheVariants as ends
-use Rattle.prt_serve.specs.declared.announcement.Saying.{Saying}
-use Rattle.prt_serve.specs.declared.announcement.Saying.TheVariants.{At, Commands}
+use Rattle.prt_serve.specs.declared.script_header.ScriptHeader.{ScriptHeader}
+use Rattle.prt_serve.specs.declared.script_header.HeadEnd.{HeadEnd}
+use Rattle.prt_serve.specs.declared.script_header.HeadEnd.TheVariants as ends
+use Rattle.prt_serve.specs.declared.script_header.Saying.{Saying}
+use Rattle.prt_serve.specs.declared.script_header.Saying.TheVariants.{At, Commands}
 use Rattle.prt_session.specs.Steps.{HasNoNewline}
 
 -- the line by which a server says what the number is
@@ -36,18 +36,18 @@ Opens saying (Some number) reader0 given =
     Consumes reader0 given (said_line saying number ++ codes "\n") ⊎ (Consumes reader0 given (said_line saying number) × IsAtEnd given)
 Opens saying None reader0 given = Keeps reader0 given × IfSome reader0 (SaysNoNumber saying)
 
--- what a client says before its file: at which number its commands are to be made, and then how many there are
-abbrev pub AreAnnounced : Announcement → (reader0 given : Option (List ℕ)) → Type 0
-AreAnnounced announced reader0 given = (between : Option (List ℕ)) × Opens At announced.number reader0 between × Opens Commands announced.count between given
+-- what a client says before its script: at which number its commands are to be made, and then how many there are
+abbrev pub HasHeader : ScriptHeader → (reader0 given : Option (List ℕ)) → Type 0
+HasHeader header reader0 given = (between : Option (List ℕ)) × Opens At header.number reader0 between × Opens Commands header.count between given
 
--- whether so many commands were announced, or no number of them was
+-- whether the header says this number of commands, or none
 abbrev pub is_as_many : Option ℕ → ℕ → Bool
 is_as_many None commands = true
 is_as_many (Some count) commands = commands == count
 
--- bytes that were left were read, and let go
-abbrev pub HasLetGo : (reader0 reader : Option (List ℕ)) → Type 0
-HasLetGo reader0 reader = (bytes : List ℕ) × Consumes reader0 reader bytes
+-- some of the bytes that were left were read and discarded
+abbrev pub HasDrained : (reader0 reader : Option (List ℕ)) → Type 0
+HasDrained reader0 reader = (bytes : List ℕ) × Consumes reader0 reader bytes
 
 -- ---- steps
 

@@ -51,12 +51,12 @@ impl<J: ServiceBrand> Answer<J> {
 /// A command that waits, and where its answer goes. One that is let go without an answer was not submitted. Contracts see
 /// it as the command.
 #[derive(Drop)]
-pub(crate) struct Waiting<J: ServiceBrand> {
+pub(crate) struct QueuedCommand<J: ServiceBrand> {
     command: Command,
     reply_to: Sender<Answer<J>, Global>,
 }
 
-impl<J: ServiceBrand> Model for Waiting<J> {
+impl<J: ServiceBrand> Model for QueuedCommand<J> {
     ghost use Rattle.prt_command.specs.Storable.{IsStorable};
     ghost use Rattle.prt_command.specs.declared.request.Command as requests;
 
@@ -67,12 +67,12 @@ impl<J: ServiceBrand> Model for Waiting<J> {
     ghost invariant = { λ waiting. IsStorable waiting.command };
 }
 
-impl<J: ServiceBrand> Waiting<J> {
-    pub(crate) fn new(command: &Command, reply_to: Sender<Answer<J>, Global>) -> Waiting<J>
+impl<J: ServiceBrand> QueuedCommand<J> {
+    pub(crate) fn new(command: &Command, reply_to: Sender<Answer<J>, Global>) -> QueuedCommand<J>
         requires { IsStorable command.now }
         ensures { result ≡ command.now }
     {
-        Waiting {
+        QueuedCommand {
             command: *command,
             reply_to,
         }

@@ -1,6 +1,6 @@
 use Rattle.std.proofs.Common.{take}
 use Rattle.prt_serve.proofs.Resuming.{gone_more, none_gone}
-use Rattle.prt_serve.proofs.atomic.let_go.Goals as goal
+use Rattle.prt_serve.proofs.atomic.drain.Goals as goal
 
 pub loop-init : goal.loop-init
 loop-init g c = none_gone (g.R.Read.remaining c.args.reader.now)
