@@ -45,16 +45,10 @@ pub fn open_publisher<S: Alter + Drop, M: DatabaseOpener<Connection<S>>>(
         Ok(made) => Ok(made),
         Err((refusal, Ok(conn))) => {
             let reason = close_refused(opener, conn, refusal);
-            Err((
-                refusal,
-                cause_of(opener, path, wanted, refusal, Ok(reason)),
-            ))
+            Err((refusal, cause_of(opener, path, wanted, refusal, Ok(reason))))
         }
         Err((refusal, Err(error))) => {
-            Err((
-                refusal,
-                cause_of(opener, path, wanted, refusal, Err(error)),
-            ))
+            Err((refusal, cause_of(opener, path, wanted, refusal, Err(error))))
         }
     }
 }
