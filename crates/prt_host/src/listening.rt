@@ -19,7 +19,7 @@ const SOCKETS: [Socket; 4] = [
 
 /// A place at which a server listens.
 #[derive(Clone, Copy)]
-pub(crate) enum Place<'a> {
+pub(crate) enum ListenPlace<'a> {
     Address(SocketAddrV4),
     /// A directory, and the name of a socket in it.
     Socket(&'a str, &'static str),
@@ -29,13 +29,13 @@ pub(crate) enum Place<'a> {
     Output,
 }
 
-impl<'a> fmt::Display for Place<'a> {
+impl<'a> fmt::Display for ListenPlace<'a> {
     fn fmt<W: fmt::Write>(&self, f: &mut fmt::Formatter<W>) -> fmt::Result {
         match self {
-            Place::Address(address) => write!(f, "{address}"),
-            Place::Socket(directory, name) => write!(f, "{directory}/{name}"),
-            Place::Directory(directory) => write!(f, "{directory}"),
-            Place::Output => f.write_str("standard output"),
+            ListenPlace::Address(address) => write!(f, "{address}"),
+            ListenPlace::Socket(directory, name) => write!(f, "{directory}/{name}"),
+            ListenPlace::Directory(directory) => write!(f, "{directory}"),
+            ListenPlace::Output => f.write_str("standard output"),
         }
     }
 }
@@ -76,7 +76,7 @@ impl fmt::Display for ListenError {
 
 /// A place that can't be listened at, and why.
 pub(crate) struct PlaceError<'a> {
-    pub(crate) place: Place<'a>,
+    pub(crate) place: ListenPlace<'a>,
     pub(crate) error: ListenError,
 }
 
@@ -157,15 +157,15 @@ impl<N: ServerNet> Listening<N> {
     ) -> Result<(), PlaceError<'a>> {
         if directory.is_empty() {
             return Err(PlaceError {
-                place: Place::Directory("--sockets"),
+                place: ListenPlace::Directory("--sockets"),
                 error: ListenError::NoName,
             });
         }
         for socket in SOCKETS {
             if let Err(error) = self.open_socket(rt, alloc, directory, socket) {
                 let place = match error.kind() {
-                    ErrorKind::NotFound => Place::Directory(directory),
-                    _ => Place::Socket(directory, socket.name()),
+                    ErrorKind::NotFound => ListenPlace::Directory(directory),
+                    _ => ListenPlace::Socket(directory, socket.name()),
                 };
                 let error = ListenError::of_socket(error);
                 return Err(PlaceError { place, error });
@@ -196,11 +196,11 @@ fn tell_place<P: fmt::Display, W: Write>(
     output: &mut W,
 ) -> Result<(), PlaceError<'static>> {
     let told = write!(output, "{word} {place}\n").and_then(|()| output.flush());
-    named(Place::Output, told)
+    named(ListenPlace::Output, told)
 }
 
 /// Names the place in the error, if there is one.
-fn named<T>(place: Place<'_>, done: io::Result<T>) -> Result<T, PlaceError<'_>> {
+fn named<T>(place: ListenPlace<'_>, done: io::Result<T>) -> Result<T, PlaceError<'_>> {
     match done {
         Ok(made) => Ok(made),
         Err(error) => Err(PlaceError {
@@ -222,8 +222,8 @@ fn open_port<N: ServerNet, W: Write>(
     let Some(place) = asked else {
         return Ok(());
     };
-    let (listener, address) = named(Place::Address(place), bind(rt, place))?;
-    named(Place::Address(place), listening.add(socket, listener))?;
+    let (listener, address) = named(ListenPlace::Address(place), bind(rt, place))?;
+    named(ListenPlace::Address(place), listening.add(socket, listener))?;
     tell_place(word, &address, output)
 }
 

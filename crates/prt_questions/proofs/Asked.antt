@@ -19,11 +19,11 @@ use Rattle.prt_args.specs.declared.asking.Source.{Source}
 use Rattle.prt_args.specs.declared.asking.Source.TheVariants.{Database, Server, Script}
 use Rattle.prt_questions.specs.Asking.{IsAnswered, IsAnsweredAtMost, IsAskedOf, IsCutOff, IsNotAsked, IsQuery, IsReplied, IsRepliedAtMost, IsTold, IsWholeAnswer, with_labels, named_answer}
 use Rattle.prt_questions.specs.Sources.{Sources}
-use Rattle.prt_questions.specs.Told.{IsSaidOf, TellsOrReplies}
+use Rattle.prt_questions.specs.ServerAnswers.{IsSaidOf, TellsOrReplies}
 use Rattle.prt_questions.specs.declared.inquiry.Inquiry.{Inquiry}
 use Rattle.prt_machine.specs.declared.database_opener.DatabaseOpener.{Ghosts as Opener}
-use Rattle.prt_questions.specs.declared.remote.Told.{Told}
-use Rattle.prt_questions.specs.declared.remote.Told.TheVariants.{Reply, Tables}
+use Rattle.prt_questions.specs.declared.remote.ServerAnswer.{ServerAnswer}
+use Rattle.prt_questions.specs.declared.remote.ServerAnswer.TheVariants.{Reply, Tables}
 use Rattle.prt_import.specs.TableNames.{names_of}
 
 module _ {M S : Type 0} (g : Ghosts S) (by : Opener M (Held S)) (from : Sources) (old new : M) where
@@ -119,7 +119,7 @@ module _ {M S : Type 0} (g : Ghosts S) (by : Opener M (Held S)) (from : Sources)
   told_at_most place line inquiry (inr (text, inr (reply, replies, is), cut)) = inr (refl, reply, replies, rw (sym is) cut)
 
 -- what a server told, by what was said of it
-pub told_said : (tells : State → Type 0) (replies : List ℕ → Type 0) (told : Told) (inquiry : Inquiry) (text : List ℕ) → TellsOrReplies tells replies told → IsSaidOf told inquiry text → IsTold tells replies inquiry text
+pub told_said : (tells : State → Type 0) (replies : List ℕ → Type 0) (told : ServerAnswer) (inquiry : Inquiry) (text : List ℕ) → TellsOrReplies tells replies told → IsSaidOf told inquiry text → IsTold tells replies inquiry text
 told_said tells replies (Tables version) inquiry text tells_it is = inl (version, tells_it, is)
 told_said tells replies (Reply reply) inquiry text replies_it is = inr (reply.items, replies_it, is)
 

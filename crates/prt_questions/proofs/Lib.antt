@@ -9,6 +9,6 @@ mod Applied
 mod InParts
 mod Later
 mod Submitted
-mod Told
+mod ServerAnswers
 mod Statuses
 mod Parts

@@ -12,7 +12,7 @@ use Rattle.prt_args.specs.declared.asking.Form.{Form}
 use Rattle.prt_args.specs.declared.asking.Verb.{Verb}
 use Rattle.prt_args.specs.declared.asking.Verb.TheVariants as verbs
 use Rattle.prt_questions.specs.Asking.{IsQuery}
-use Rattle.prt_questions.specs.Told.{IsQueryLine}
+use Rattle.prt_questions.specs.ServerAnswers.{IsQueryLine}
 
 -- no question is made of no line, or of a command's
 none_asked : (verb : Verb) (form : Form) (asked : Question) → question_by verb form None ≡ Ok asked → ⊥

@@ -9,4 +9,4 @@ pub mod Importing
 pub mod Sources
 pub mod StatusText
 pub mod Submitting
-pub mod Told
+pub mod ServerAnswers

@@ -10,14 +10,14 @@ ghost use Rattle.prt_import.specs.Accepted.{IsExecuted};
 ghost use Rattle.prt_import.specs.TableNames.{names_of};
 ghost use Rattle.prt_questions.specs.Sources.{AreTold, IsFileOf, IsRead, IsReply, path_of, sources_of};
 ghost use Rattle.prt_replies.specs.Written.{Written};
-ghost use Rattle.prt_questions.specs.Told.{IsQueryLine, IsSaidOf};
+ghost use Rattle.prt_questions.specs.ServerAnswers.{IsQueryLine, IsSaidOf};
 ghost use Rattle.prt_version.specs.State.{State};
 ghost use Rattle.prt_args.specs.declared.asking.Source.TheVariants.{Server};
 
 use crate::inquiry::{Inquiry, named_answer, with_labels};
 use crate::left::{or_left, tell_left, tell_left_out};
 use crate::reading::{names_for, read_whole, report_no_memory};
-use crate::remote::{Told, ask_line, read_tables};
+use crate::remote::{ServerAnswer, ask_line, read_tables};
 use prt_args::{DONE, FAULT, Form, QueryArgs, STANDARD_INPUT, ServerPlace, Source};
 use prt_ask::{AnswerError, Answered, Question, question_of};
 use prt_import::{Accepted, accept};
@@ -203,15 +203,19 @@ fn ask_by_tables<N: LocalNet, W: Write, E: Write>(
 }
 
 /// Returns what a server said to an inquiry, with the labels of tables that it asks for.
-fn named_reply(alloc: Global, told: Told, inquiry: &Inquiry<'_>) -> Result<Vec<u8>, AnswerError>
+fn named_reply(
+    alloc: Global,
+    told: ServerAnswer,
+    inquiry: &Inquiry<'_>,
+) -> Result<Vec<u8>, AnswerError>
     ensures { IfOk result (λ text. IsSaidOf told inquiry.now text.items) }
 {
     match told {
-        Told::Tables(version) => match named_answer(alloc, &version, inquiry) {
+        ServerAnswer::Tables(version) => match named_answer(alloc, &version, inquiry) {
             Ok(made) => Ok(made.text),
             Err(reason) => Err(reason),
         },
-        Told::Reply(reply) => with_labels(alloc, inquiry, reply),
+        ServerAnswer::Reply(reply) => with_labels(alloc, inquiry, reply),
     }
 }
 

@@ -4,7 +4,7 @@ ghost use Rattle.std.specs.Io.Buffered.{reader_remaining};
 ghost use Rattle.std.specs.Io.KnownBytes.{Keeps};
 ghost use Rattle.prt_args.specs.declared.server_place.ServerPlace.TheVariants.{Folder};
 ghost use Rattle.prt_questions.specs.Sources.{AreTold, IsHeard, IsReport};
-ghost use Rattle.prt_questions.specs.Told.{IsFeedBefore, IsInquiry, IsQueryLine, IsReached, IsToldBy, IsToldIn};
+ghost use Rattle.prt_questions.specs.ServerAnswers.{IsFeedBefore, IsInquiry, IsQueryLine, IsReached, IsToldBy, IsToldIn};
 
 use crate::reading::last_line;
 use prt_args::ServerPlace;
@@ -91,7 +91,7 @@ impl From<AllocError> for ServerError {
 
 /// What a server said to the line of a query.
 #[derive(Drop)]
-pub(crate) enum Told {
+pub(crate) enum ServerAnswer {
     /// The tables, which its feed begins with.
     Tables(Version),
     /// The reply of a session.
@@ -257,13 +257,13 @@ fn read_reply<R: Read>(alloc: Global, reader: &mut R) -> Result<Vec<u8>, ServerE
 }
 
 /// Reads what a server says to a query: a session the reply, a feed the tables.
-fn read_told<R: Read>(alloc: Global, reader: &mut BufReader<R>) -> Result<Told, ServerError>
+fn read_told<R: Read>(alloc: Global, reader: &mut BufReader<R>) -> Result<ServerAnswer, ServerError>
     ensures { IfOk result (IsToldIn (reader_remaining R.remaining reader.old)) }
 {
     if first_byte(reader)? == Some(FEED) {
-        Ok(Told::Tables(read_version(alloc, reader)?))
+        Ok(ServerAnswer::Tables(read_version(alloc, reader)?))
     } else {
-        Ok(Told::Reply(read_reply(alloc, reader)?))
+        Ok(ServerAnswer::Reply(read_reply(alloc, reader)?))
     }
 }
 
@@ -287,12 +287,12 @@ fn send_line<N: LocalNet>(
 }
 
 /// Reads the tables of the feed in a server's folder. It has clients of its own, so it answers also if all workers are busy.
-fn told_by_feed<N: LocalNet>(rt: &N, alloc: Global, place: &ServerPlace<'_>) -> Option<Told>
+fn told_by_feed<N: LocalNet>(rt: &N, alloc: Global, place: &ServerPlace<'_>) -> Option<ServerAnswer>
     ensures { (line : List ℕ) → IfSome result (IsToldBy N.reaches N.Stream.remaining rt.now place.now line) }
 {
     match place {
         ServerPlace::Folder(_) => match read_tables(rt, alloc, place) {
-            Ok(version) => Some(Told::Tables(version)),
+            Ok(version) => Some(ServerAnswer::Tables(version)),
             Err(_) => None,
         },
         ServerPlace::Address(_) => None,
@@ -306,7 +306,7 @@ pub(crate) fn ask_line<N: LocalNet>(
     alloc: Global,
     place: &ServerPlace<'_>,
     line: &[u8],
-) -> Result<Told, ServerError>
+) -> Result<ServerAnswer, ServerError>
     requires { IsQueryLine line.now }
     ensures { IfOk result (IsToldBy N.reaches N.Stream.remaining rt.now place.now line.now) }
 {

@@ -8,7 +8,7 @@ ghost use Rattle.prt_service.specs.Service.{IsFollowRefusal};
 ghost use Rattle.prt_replies.specs.Written.{Written};
 
 use crate::context::{ServiceContext, Serving};
-use crate::places::{Place, Places};
+use crate::follower_slots::{FollowerSlot, FollowerSlots};
 use crate::watch::{Due, Peer, Watch, look};
 use arrayvec::ArrayString;
 use itoa::Buffer;
@@ -24,7 +24,7 @@ use std::sync::{Arc, Wait};
 use std::thread;
 use std::time::{Clock, Duration};
 
-/// How often a connection asks for a place, and looks at its peer meanwhile.
+/// How often a connection asks for a slot, and looks at its peer meanwhile.
 const TRIES: u64 = 100;
 
 /// How many milliseconds lie between two of these.
@@ -141,16 +141,16 @@ fn tell_on<C: Serving, R: Read, W: Write>(
     true
 }
 
-/// Takes a place, for which it waits up to a second. `None` if none gets free, or the peer sends nothing more: it then
+/// Takes a slot, for which it waits up to a second. `None` if none gets free, or the peer sends nothing more: it then
 /// has most likely gone.
-fn place_for<'a, H: Wait + Clock, R: Read>(
+fn slot_for<'a, H: Wait + Clock, R: Read>(
     rt: &H,
-    places: &'a Places,
+    slots: &'a FollowerSlots,
     reader: &mut R,
-) -> Option<Place<'a>> {
+) -> Option<FollowerSlot<'a>> {
     for _ in 0..TRIES {
-        if let Some(place) = places.take(rt) {
-            return Some(place);
+        if let Some(slot) = slots.take(rt) {
+            return Some(slot);
         }
         thread::sleep(rt, Duration::from_millis(PAUSE));
         if !matches!(look(reader), Peer::There) {
@@ -160,11 +160,11 @@ fn place_for<'a, H: Wait + Clock, R: Read>(
     None
 }
 
-/// Writes what is published: the tables of a version, and, with a place, each command that the follower learns after it;
+/// Writes what is published: the tables of a version, and, with a slot, each command that the follower learns after it;
 /// returns whether all of it went well.
 fn feed<C: Serving, R: Read, W: Write>(
     context: &ServiceContext<'_, C>,
-    places: &Places,
+    slots: &FollowerSlots,
     follower: &mut Follower<C::Brand>,
     version: Arc<Version>,
     reader: &mut R,
@@ -180,18 +180,18 @@ fn feed<C: Serving, R: Read, W: Write>(
     if !is_written {
         return false;
     }
-    let Some(place) = place_for(context.rt, places, reader) else {
+    let Some(slot) = slot_for(context.rt, slots, reader) else {
         return true;
     };
     let is_whole = tell_on(context, follower, &mut Watch::new(reader), writer);
-    place.leave(context.rt);
+    slot.leave(context.rt);
     is_whole
 }
 
 /// Feeds a writer: the tables of the published version, with its number, as the lines of a dump; and then each command that
 /// is published after it, with its number, as it is acknowledged. `Feeds` defines the text.
 ///
-/// After the tables it needs a place, and ends if none gets free within a second. With one it goes on until following
+/// After the tables it needs a slot, and ends if none gets free within a second. With one it goes on until following
 /// ends, the writer falls behind by more than 1,000 commands, or the peer has gone; nobody waits for the writer. The
 /// reader, whose reads hardly wait, shows whether the peer is there; while nothing is published it is looked at once a
 /// second, and a line `#` is written after each 15 seconds. A line `# together K` comes before K commands that were made
@@ -205,7 +205,7 @@ fn feed<C: Serving, R: Read, W: Write>(
 /// Those of `Service::follow`; nothing is written then.
 pub fn serve_feed<C: Serving, R: Read, W: Write>(
     context: &ServiceContext<'_, C>,
-    places: &Places,
+    slots: &FollowerSlots,
     reader: &mut R,
     writer: &mut W,
 ) -> Result<Fed, Refusal>
@@ -219,7 +219,7 @@ pub fn serve_feed<C: Serving, R: Read, W: Write>(
         Ok(made) => made,
         Err(reason) => return Err(reason),
     };
-    let is_whole = feed(context, places, &mut follower, version, reader, writer);
+    let is_whole = feed(context, slots, &mut follower, version, reader, writer);
     Ok(Fed {
         is_whole,
         left: follower.leave(context.rt, context.service),

@@ -5,8 +5,8 @@ use crate::accept_loop::{Accepting, SessionListener};
 use crate::accepting::{AcceptResult, accept_one};
 use crate::context::{ServiceContext, Serving, SharedServing};
 use crate::feed::serve_feed;
+use crate::follower_slots::FollowerSlots;
 use crate::gate::Gate;
-use crate::places::Places;
 use crate::threads::{Limits, ServeEnd, Worked, serve_sessions};
 use crossbeam_channel::{Receiver, Sender, bounded};
 use std::io::{self, Read, Write};
@@ -56,7 +56,7 @@ fn feed_ends<T: OpenStream + Drop>(stream: T) -> io::Result<FeedEnds<T>> {
 /// Feeds one connection after another, until no more come. A fault ends its own feed alone, and closes its connection.
 fn feed_streams<C: Serving, T: Read + Write + OpenStream + Drop>(
     context: &ServiceContext<'_, C>,
-    places: &Places,
+    slots: &FollowerSlots,
     streams: &Receiver<T>,
 ) {
     for stream in streams.iter(context.rt) {
@@ -67,7 +67,7 @@ fn feed_streams<C: Serving, T: Read + Write + OpenStream + Drop>(
             },
         ) = feed_ends(stream)
         {
-            let _fed = serve_feed(context, places, &mut reader, &mut writer).is_ok();
+            let _fed = serve_feed(context, slots, &mut reader, &mut writer).is_ok();
         }
     }
 }
@@ -151,11 +151,11 @@ fn feed_all<
     let Ok((sender, streams)) = bounded(context.alloc, 0) else {
         return Accepting::Failed;
     };
-    let places = Places::new(FOLLOWERS);
+    let slots = FollowerSlots::new(FOLLOWERS);
     let (has_fed, accepting) = thread::join(
         context.rt,
         || {
-            let feeder = |_| feed_streams(context, &places, &streams);
+            let feeder = |_| feed_streams(context, &slots, &streams);
             thread::map_indices(context.rt, context.alloc, FEEDERS, &feeder).is_ok()
         },
         move || accept_feeds(context.rt, context.gate, listeners, sender, is_ended),

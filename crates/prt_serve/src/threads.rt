@@ -70,19 +70,19 @@ impl<J: ServiceBrand> Worked<J> {
 
 /// A worker whose thread is still to be started.
 #[derive(Drop)]
-struct Worker<'a, C: Serving, T: Read + Write + Drop> {
+struct WorkerThread<'a, C: Serving, T: Read + Write + Drop> {
     context: ServiceContext<'a, C>,
     jobs: Receiver<Connected<T>>,
     idle: Option<Duration>,
 }
 
-impl<'a, C: Serving, T: Read + Write + Drop> Worker<'a, C, T> {
+impl<'a, C: Serving, T: Read + Write + Drop> WorkerThread<'a, C, T> {
     fn new(
         context: ServiceContext<'a, C>,
         jobs: Receiver<Connected<T>>,
         idle: Option<Duration>,
-    ) -> Worker<'a, C, T> {
-        Worker {
+    ) -> WorkerThread<'a, C, T> {
+        WorkerThread {
             context,
             jobs,
             idle,
@@ -100,21 +100,21 @@ impl<'a, C: Serving, T: Read + Write + Drop> Worker<'a, C, T> {
 
 /// The waiting room, whose thread is still to be started.
 #[derive(Drop)]
-struct Attendant<'a, C: Serving, T: Read + Write + OpenStream + Drop> {
+struct RoomThread<'a, C: Serving, T: Read + Write + OpenStream + Drop> {
     context: ServiceContext<'a, C>,
     arrivals: Receiver<Arrival<T>>,
     jobs: Sender<Connected<T>>,
     idle: Option<Duration>,
 }
 
-impl<'a, C: Serving, T: Read + Write + OpenStream + Drop> Attendant<'a, C, T> {
+impl<'a, C: Serving, T: Read + Write + OpenStream + Drop> RoomThread<'a, C, T> {
     fn new(
         context: ServiceContext<'a, C>,
         arrivals: Receiver<Arrival<T>>,
         jobs: Sender<Connected<T>>,
         idle: Option<Duration>,
-    ) -> Attendant<'a, C, T> {
-        Attendant {
+    ) -> RoomThread<'a, C, T> {
+        RoomThread {
             context,
             arrivals,
             jobs,
@@ -124,7 +124,7 @@ impl<'a, C: Serving, T: Read + Write + OpenStream + Drop> Attendant<'a, C, T> {
 
     /// Attends to connections until no more come.
     fn serve(self) {
-        let Attendant {
+        let RoomThread {
             context,
             arrivals,
             jobs,
@@ -257,7 +257,7 @@ impl<J: ServiceBrand> Manned<J> {
 /// worker itself is dropped, so a send fails once no copy is left.
 fn start_workers<'s, E: 's, C: SharedServing + 's, T: Read + Write + OpenStream + Drop + Send + 's>(
     scope: &Scope<'s, E>,
-    like: Worker<'s, C, T>,
+    like: WorkerThread<'s, C, T>,
     workers: usize,
     crew: &mut Crew<C::Brand>,
 ) -> bool
@@ -268,7 +268,7 @@ fn start_workers<'s, E: 's, C: SharedServing + 's, T: Read + Write + OpenStream 
         let Ok(jobs) = like.jobs.clone() else {
             return false;
         };
-        let worker = Worker::new(like.context, jobs, like.idle);
+        let worker = WorkerThread::new(like.context, jobs, like.idle);
         if !crew.add_started(scope.spawn(move || worker.serve()).ok()) {
             return false;
         }
@@ -300,8 +300,8 @@ fn accept_among_workers<
     } = channels;
     // The prover keeps what the closure ensures only if it borrows no context.
     let (rt, gate) = (context.rt, context.gate);
-    let worker = Worker::new(*context, jobs, limits.idle);
-    let attendant = Attendant::new(*context, arrivals, to_workers, limits.idle);
+    let worker = WorkerThread::new(*context, jobs, limits.idle);
+    let attendant = RoomThread::new(*context, arrivals, to_workers, limits.idle);
     thread::scope(
         thread::scope_env(),
         rt,

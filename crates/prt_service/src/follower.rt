@@ -4,8 +4,8 @@ ghost use Rattle.prt_published.specs.Line.{line_state};
 ghost use Rattle.prt_service.specs.Follow.{IsNews};
 ghost use Rattle.prt_version.specs.Accepted.{IsAccepted};
 
-use crate::change::Change;
 use crate::followers::FollowerNumber;
+use crate::published_command::PublishedCommand;
 use crate::{News, Service, ServiceBrand, Unfollowed};
 use crossbeam_channel::{Receiver, RecvTimeoutError};
 use prt_published::{Known, Told};
@@ -18,7 +18,7 @@ use std::time::{Clock, Duration};
 /// The end of a channel to which each command comes that is published from now on.
 #[derive(Drop)]
 pub(crate) struct Changes<J: ServiceBrand> {
-    pub(crate) receiver: Receiver<Change<J>, Global>,
+    pub(crate) receiver: Receiver<PublishedCommand<J>, Global>,
     pub(crate) follower: FollowerNumber,
 }
 
@@ -76,7 +76,7 @@ impl<J: ServiceBrand> Follower<J> {
     pub fn next_within<H: Wait + Clock>(&mut self, rt: &H, patience: Duration) -> News
         ensures { IsNews self.old result self.new }
     {
-        let Change {
+        let PublishedCommand {
             number,
             command,
             together,

@@ -4,7 +4,7 @@ ghost use Rattle.prt_service.specs.Follow.{others};
 ghost use Rattle.prt_service.specs.Service.{EndsWith, EndsWithAll};
 
 use crate::ServiceBrand;
-use crate::change::Change;
+use crate::published_command::PublishedCommand;
 use crossbeam_channel::Sender;
 use prt_command::Command;
 use prt_published::Told;
@@ -49,7 +49,7 @@ impl Model for Unfollowed {
 #[derive(Drop)]
 struct Recipient<J: ServiceBrand> {
     number: u64,
-    sender: Sender<Change<J>, Global>,
+    sender: Sender<PublishedCommand<J>, Global>,
 }
 
 impl<J: ServiceBrand> Model for Recipient<J> {
@@ -93,7 +93,10 @@ impl<J: ServiceBrand> Followers<J> {
     }
 
     /// Adds one, and returns its number. `None` if following has ended, or if there is no memory for it.
-    pub(crate) fn add(&mut self, sender: Sender<Change<J>, Global>) -> Option<FollowerNumber>
+    pub(crate) fn add(
+        &mut self,
+        sender: Sender<PublishedCommand<J>, Global>,
+    ) -> Option<FollowerNumber>
         ensures { MatchOption result (self.new ≡ self.old) (λ number. (self.new ≡ self.old ++ number ∷ []) × (Contains self.old number → ⊥)) }
     {
         if self.is_ended {
@@ -131,7 +134,7 @@ impl<J: ServiceBrand> Followers<J> {
     }
 
     /// Reports a command to each, and lets those go that have no room for it, or have left.
-    fn tell<H: Wait>(&mut self, rt: &H, change: &Change<J>) {
+    fn tell<H: Wait>(&mut self, rt: &H, change: &PublishedCommand<J>) {
         self.recipients
             .retain(|one| one.sender.try_send(rt, change.again()).is_ok());
     }
@@ -148,7 +151,10 @@ impl<J: ServiceBrand> Followers<J> {
                 return;
             }
             later -= 1;
-            self.tell(rt, &Change::new(last, later as u64, command, together));
+            self.tell(
+                rt,
+                &PublishedCommand::new(last, later as u64, command, together),
+            );
             together = 0;
         }
     }

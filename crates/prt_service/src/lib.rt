@@ -9,7 +9,6 @@
 //! The lock of the spare readers is held with no other. A looker reads the version that it holds without any.
 #![tactic(auto)]
 
-mod change;
 mod contents;
 mod departure;
 mod figures;
@@ -20,6 +19,7 @@ mod held;
 mod lobby;
 mod looker;
 mod news;
+mod published_command;
 mod publisher_with_followers;
 mod queued_command;
 mod released;

@@ -13,8 +13,8 @@ ghost use Rattle.prt_service.specs.Named.{IsNamed};
 ghost use Rattle.prt_service.specs.Service.{EndsWith, EndsWithAll, IsAfter, IsFollowRefusal, IsServiceRefusal, IsWhyNotMade};
 ghost use Rattle.prt_version.specs.Accepted.{IsAccepted};
 
-use crate::change::Change;
 use crate::followers::{FollowerNumber, Followers};
+use crate::published_command::PublishedCommand;
 use crate::submit_error::SubmitError;
 use crate::tally::{CommitTime, Tally};
 use crate::{Released, ServiceBrand, Unfollowed};
@@ -239,7 +239,7 @@ impl<S: Alter + Drop, J: ServiceBrand> PublisherWithFollowers<S, J> {
     /// Adds a follower, and returns its number. `None` if following has ended, or if there is no memory for it.
     pub(crate) fn add_follower(
         &mut self,
-        sender: Sender<Change<J>, Global>,
+        sender: Sender<PublishedCommand<J>, Global>,
     ) -> Option<FollowerNumber>
         ensures { self.new ≡ self.old }
     {

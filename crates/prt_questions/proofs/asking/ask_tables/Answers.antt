@@ -3,7 +3,7 @@ use Rattle.std.specs.Io.KnownBytes.{Appends}
 use Rattle.prt_questions.specs.Asking.{IsCutOff, IsTold}
 use Rattle.prt_questions.proofs.Asked.{or_query, told_at_most, told_whole}
 use Rattle.prt_questions.proofs.QueryLines.{query_line}
-use Rattle.prt_questions.specs.Told.{IsQueryLine}
+use Rattle.prt_questions.specs.ServerAnswers.{IsQueryLine}
 use Rattle.prt_questions.specs.Sources.{sources_of}
 use Rattle.prt_questions.proofs.asking.ask_tables.Goals as goal
 

@@ -1,5 +1,5 @@
 use Rattle.std.specs.Io.Buffered.{reader_remaining}
-use Rattle.prt_questions.proofs.Told.{fresh, told_by}
+use Rattle.prt_questions.proofs.ServerAnswers.{fresh, told_by}
 use Rattle.prt_questions.proofs.remote.ask_line.Goals as goal
 
 pub returns : goal.returns

@@ -2,7 +2,7 @@ use Rattle.std.proofs.Common.{[], refl, subst}
 use Rattle.std.specs.Io.Buffered.{reader_remaining}
 use Rattle.prt_feed.specs.Reading.{IsOpening}
 use Rattle.prt_machine.specs.declared.local.Socket.TheVariants.{Feed}
-use Rattle.prt_questions.proofs.Told.{fresh}
+use Rattle.prt_questions.proofs.ServerAnswers.{fresh}
 use Rattle.prt_questions.proofs.remote.open_feed.Goals as goal
 
 pub returns : goal.returns

@@ -1,5 +1,5 @@
 use Rattle.std.specs.Io.Buffered.{reader_remaining}
-use Rattle.prt_questions.proofs.Told.{opening_of}
+use Rattle.prt_questions.proofs.ServerAnswers.{opening_of}
 use Rattle.prt_questions.proofs.remote.read_feed.Goals as goal
 
 pub returns : goal.returns

@@ -1,5 +1,5 @@
 use Rattle.std.specs.Io.Buffered.{reader_remaining}
-use Rattle.prt_questions.proofs.Told.{all_of, opening_of}
+use Rattle.prt_questions.proofs.ServerAnswers.{all_of, opening_of}
 use Rattle.prt_questions.proofs.remote.read_told.Goals as goal
 
 pub returns-in_ok-read_version : goal.returns-in_ok-read_version

@@ -14,8 +14,8 @@ use Rattle.prt_questions.specs.Asking.{with_labels, named_answer}
 use Rattle.prt_questions.specs.Sources.{AreTold, IsReply}
 use Rattle.prt_questions.specs.declared.inquiry.Inquiry.{Inquiry}
 use Rattle.prt_machine.specs.declared.local.Socket.{Socket}
-use Rattle.prt_questions.specs.declared.remote.Told.{Told}
-use Rattle.prt_questions.specs.declared.remote.Told.TheVariants.{Reply, Tables}
+use Rattle.prt_questions.specs.declared.remote.ServerAnswer.{ServerAnswer}
+use Rattle.prt_questions.specs.declared.remote.ServerAnswer.TheVariants.{Reply, Tables}
 
 -- a session reads a line as a query
 abbrev pub IsQueryLine : List ℕ → Type 0
@@ -35,7 +35,7 @@ abbrev pub IsFeedOf : Option (List ℕ) → State → Type 0
 IsFeedOf bytes told = (rest : Option (List ℕ)) × IsFeedBefore bytes rest told
 
 -- these tables were told, or this was replied
-abbrev pub TellsOrReplies : (tells : State → Type 0) → (replies : List ℕ → Type 0) → Told → Type 0
+abbrev pub TellsOrReplies : (tells : State → Type 0) → (replies : List ℕ → Type 0) → ServerAnswer → Type 0
 TellsOrReplies tells replies (Tables version) = tells version
 TellsOrReplies tells replies (Reply reply) = replies reply.items
 
@@ -45,14 +45,14 @@ module _ {N Stream : Type 0} (reaches : N → ServerPlace → Socket → List �
   IsReached net place sent stream = (socket : Socket) × reaches net place socket sent stream
 
   -- its feed told these tables, or a session replied this
-  abbrev pub IsToldBy : (Stream → Option (List ℕ)) → N → ServerPlace → (line : List ℕ) → Told → Type 0
+  abbrev pub IsToldBy : (Stream → Option (List ℕ)) → N → ServerPlace → (line : List ℕ) → ServerAnswer → Type 0
   IsToldBy said net place line told = TellsOrReplies (AreTold reaches said net place) (IsReply reaches said net place line) told
 
 -- these bytes are those of a feed, or of the reply of a session
-abbrev pub IsToldIn : Option (List ℕ) → Told → Type 0
+abbrev pub IsToldIn : Option (List ℕ) → ServerAnswer → Type 0
 IsToldIn bytes told = TellsOrReplies (IsFeedOf bytes) (λ reply. IfSome bytes (λ all. reply ≡ all)) told
 
 -- a text is what was said to an inquiry: the answer of the tables, or the reply, with the labels that it asks for
-abbrev pub IsSaidOf : Told → Inquiry → List ℕ → Type 0
+abbrev pub IsSaidOf : ServerAnswer → Inquiry → List ℕ → Type 0
 IsSaidOf (Tables version) inquiry text = text ≡ named_answer inquiry version
 IsSaidOf (Reply reply) inquiry text = text ≡ with_labels inquiry.labels inquiry.form (names_of inquiry.names.now) reply.items

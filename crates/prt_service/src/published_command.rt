@@ -11,7 +11,7 @@ use std::marker::{Model, PhantomData};
 /// A command that was published on the named front, and its number. Contracts see it as the published list that ends with
 /// it.
 #[derive(Drop)]
-pub(crate) struct Change<J: ServiceBrand> {
+pub(crate) struct PublishedCommand<J: ServiceBrand> {
     pub(crate) number: u64,
     pub(crate) command: Command,
     /// How many commands were made together, if it is the first of them; 0 otherwise.
@@ -20,7 +20,7 @@ pub(crate) struct Change<J: ServiceBrand> {
     pub(crate) of: PhantomData<J>,
 }
 
-impl<J: ServiceBrand> Model for Change<J> {
+impl<J: ServiceBrand> Model for PublishedCommand<J> {
     ghost use Rattle.std.specs.Prelude.{◌≡◌, ◌+◌, length};
     ghost use Rattle.prt_published.specs.Line.{Line, line_state};
     ghost use Rattle.prt_service.specs.Service.{EndsWith};
@@ -40,16 +40,21 @@ fn same(told: &Told) -> Told
     told.without_last(0)
 }
 
-impl<J: ServiceBrand> Change<J> {
+impl<J: ServiceBrand> PublishedCommand<J> {
     /// Reports the command that was accepted `later` commands before the last of a receipt, and how many it begins.
-    pub(crate) fn new(last: &Receipt, later: u64, command: &Command, together: u64) -> Change<J>
+    pub(crate) fn new(
+        last: &Receipt,
+        later: u64,
+        command: &Command,
+        together: u64,
+    ) -> PublishedCommand<J>
         requires of { (last.now.book ≡ J.book) × (last.now.base ≡ J.base) }
         requires earlier { later < length last.now.list }
         requires ends { EndsWith (take (length last.now.list - later) last.now.list) command.now }
         ensures { result ≡ record last.now { list = take (length last.now.list - later) last.now.list } }
     {
         let receipt = last.of_earlier(later);
-        Change {
+        PublishedCommand {
             number: receipt.number(),
             command: *command,
             together,
@@ -59,10 +64,10 @@ impl<J: ServiceBrand> Change<J> {
     }
 
     /// Reports it once more.
-    pub(crate) fn again(&self) -> Change<J>
+    pub(crate) fn again(&self) -> PublishedCommand<J>
         ensures { result ≡ self.now }
     {
-        Change {
+        PublishedCommand {
             number: self.number,
             command: self.command,
             together: self.together,

@@ -7,10 +7,10 @@ use Rattle.std.specs.declared.io.buffered.BufReader.{BufReader}
 use Rattle.prt_feed.specs.Reading.{IsOpening}
 use Rattle.prt_feed.specs.declared.opening.Opening.{Opening}
 use Rattle.prt_args.specs.declared.server_place.ServerPlace.{ServerPlace}
-use Rattle.prt_questions.specs.Told.{IsReached, IsToldBy, IsToldIn}
+use Rattle.prt_questions.specs.ServerAnswers.{IsReached, IsToldBy, IsToldIn}
 use Rattle.prt_machine.specs.declared.local.Socket.{Socket}
-use Rattle.prt_questions.specs.declared.remote.Told.{Told}
-use Rattle.prt_questions.specs.declared.remote.Told.TheVariants.{Reply, Tables}
+use Rattle.prt_questions.specs.declared.remote.ServerAnswer.{ServerAnswer}
+use Rattle.prt_questions.specs.declared.remote.ServerAnswer.TheVariants.{Reply, Tables}
 
 -- nothing goes before it
 nothing_before : (known : Option (List ℕ)) → prepend_known [] known ≡ known
@@ -54,7 +54,7 @@ all_of (Some xs) None P kept all = absurd kept
 
 -- what was read over a connection, over which a line was sent
 told_in : {N Stream : Type 0} (reaches : N → ServerPlace → Socket → List ℕ → Stream → Type 0) (said : Stream → Option (List ℕ)) (net : N) (place : ServerPlace) (line : List ℕ) (stream : Stream) → IsReached reaches net place (line ++ codes "\n") stream
-    → (known : Option (List ℕ)) → Keeps (said stream) known → (told : Told) → IsToldIn known told → IsToldBy reaches said net place line told
+    → (known : Option (List ℕ)) → Keeps (said stream) known → (told : ServerAnswer) → IsToldIn known told → IsToldBy reaches said net place line told
 told_in reaches said net place line stream reached known kept (Tables version) read = record {
   socket = reached.0;
   sent = line ++ codes "\n";
@@ -68,7 +68,7 @@ told_in reaches said net place line stream reached known kept (Tables version) r
 told_in reaches said net place line stream reached known kept (Reply reply) read = (reached.0, stream, reached.1, all_of (said stream) known (λ all. reply.items ≡ all) kept read)
 
 pub told_by : {N Stream E : Type 0} (reaches : N → ServerPlace → Socket → List ℕ → Stream → Type 0) (said : Stream → Option (List ℕ)) (net : N) (place : ServerPlace) (line : List ℕ) (stream : Stream) → IsReached reaches net place (line ++ codes "\n") stream
-    → (first known : Option (List ℕ)) → first ≡ said stream → Keeps first known → (result : Result Told E) → IfOk result (IsToldIn known) → IfOk result (IsToldBy reaches said net place line)
+    → (first known : Option (List ℕ)) → first ≡ said stream → Keeps first known → (result : Result ServerAnswer E) → IfOk result (IsToldIn known) → IfOk result (IsToldBy reaches said net place line)
 told_by reaches said net place line stream reached first known is kept (Ok told) read = told_in reaches said net place line stream reached known (subst (λ bytes. Keeps bytes known) is kept) told read
 told_by reaches said net place line stream reached first known is kept (Err reason) read = tt
 
