@@ -7,15 +7,15 @@ use Rattle.prt_command.specs.declared.request.Command.{Command}
 use Rattle.prt_listing.proofs.ListingLines.{listed_more}
 use Rattle.prt_spelling.specs.Line.{line_by}
 use Rattle.prt_spelling.specs.Spelled.{is_spelled}
-use Rattle.prt_spelling.specs.declared.form.ProtocolForm.{ProtocolForm}
+use Rattle.prt_spelling.specs.declared.form.NameForm.{NameForm}
 use Rattle.prt_spelling.proofs.Found.{found_is_spelled}
 use Rattle.prt_diff.specs.Text.{IsAskedFor, text_by}
 
 -- one line more
-pub line_more : (form : ProtocolForm) (commands : List Command) (i : ℕ) (command : Command) (old new : List ℕ) → i < length commands → command ≡ get_or commands i command → old ≡ text_by form (take i commands) → new ≡ old ++ (line_by form command ++ codes "\n") → new ≡ text_by form (take (i + 1) commands)
+pub line_more : (form : NameForm) (commands : List Command) (i : ℕ) (command : Command) (old new : List ℕ) → i < length commands → command ≡ get_or commands i command → old ≡ text_by form (take i commands) → new ≡ old ++ (line_by form command ++ codes "\n") → new ≡ text_by form (take (i + 1) commands)
 line_more form commands i command old new inside is held pushed = listed_more (line_by form) commands i command [] old new inside is held pushed
 
-pub asked_more : (form : ProtocolForm) (commands : List Command) (i : ℕ) (command : Command) → i < length commands → command ≡ get_or commands i command → AllWithin (IsAskedFor form) commands 0 i → IsAskedFor form command → AllWithin (IsAskedFor form) commands 0 (i + 1)
+pub asked_more : (form : NameForm) (commands : List Command) (i : ℕ) (command : Command) → i < length commands → command ≡ get_or commands i command → AllWithin (IsAskedFor form) commands 0 i → IsAskedFor form command → AllWithin (IsAskedFor form) commands 0 (i + 1)
 asked_more form commands i command inside is so_far asked = AllWithin-more (IsAskedFor form) commands 0 i so_far (at_read commands (IsAskedFor form) i command inside is asked)
 
 -- the first that passes
@@ -27,7 +27,7 @@ first_at p (y ∷ ys) (suc i) x inside is before passes =
     simp fails (first_at p ys i x (omega arith) is (λ k d low high. before (suc k) d (omega arith) (omega arith)) passes)
 
 -- the first that no line can express
-pub first_unspelled : (form : ProtocolForm) (commands : List Command) (i : ℕ) (command : Command) → i < length commands → command ≡ get_or commands i command → AllWithin (IsAskedFor form) commands 0 i → is_spelled command ≡ false → find (λ other. not (is_spelled other)) commands ≡ Some command
+pub first_unspelled : (form : NameForm) (commands : List Command) (i : ℕ) (command : Command) → i < length commands → command ≡ get_or commands i command → AllWithin (IsAskedFor form) commands 0 i → is_spelled command ≡ false → find (λ other. not (is_spelled other)) commands ≡ Some command
 first_unspelled form commands i command inside is asked unspelled =
     first_at (λ other. not (is_spelled other)) commands i command inside is
     (λ k d low high. ap not (found_is_spelled (line_by form (get_or commands k d)) (get_or commands k d) (asked k d low high)))

@@ -6,8 +6,8 @@ use Rattle.prt_command.specs.declared.request.Request.TheVariants as requests
 use Rattle.prt_listing.specs.QueryText.{lines_text}
 use Rattle.prt_spelling.specs.Line.{line_by}
 use Rattle.prt_spelling.specs.Spelled.{is_spelled}
-use Rattle.prt_spelling.specs.declared.form.ProtocolForm.{ProtocolForm}
-use Rattle.prt_spelling.specs.declared.form.ProtocolForm.TheVariants.{ByName, ByNumber}
+use Rattle.prt_spelling.specs.declared.form.NameForm.{NameForm}
+use Rattle.prt_spelling.specs.declared.form.NameForm.TheVariants.{ByName, ByNumber}
 use Rattle.prt_version.specs.State.{State}
 use Rattle.prt_diff.specs.Plan.{changes}
 use Rattle.prt_diff.specs.declared.fence.Fence.{Fence}
@@ -15,10 +15,10 @@ use Rattle.prt_diff.specs.declared.refusal.LineError.{LineError}
 use Rattle.prt_diff.specs.declared.refusal.LineError.TheVariants.{NoLine, NoMemory}
 
 -- a line for each command, with its newline
-abbrev pub text_by : ProtocolForm → List Command → List ℕ
+abbrev pub text_by : NameForm → List Command → List ℕ
 text_by form commands = lines_text (map (line_by form) commands)
 
--- the lines with the names of protocols, for a reader and for a server
+-- the lines with the names of protocols and scopes, for a reader and for a server
 abbrev pub commands_text : List Command → List ℕ
 commands_text commands = text_by ByName commands
 
@@ -30,7 +30,7 @@ abbrev pub changes_text : Fence → State → State → List ℕ
 changes_text fence found wanted = batch_text (changes fence found wanted)
 
 -- the line of the command asks for it
-abbrev pub IsAskedFor : ProtocolForm → Command → Type 0
+abbrev pub IsAskedFor : NameForm → Command → Type 0
 IsAskedFor form command = reading (line_by form command) ≡ Ok (Some (requests.Command command))
 
 -- the first command that no line can express

@@ -1,6 +1,6 @@
 //! The lines that put a version back on a host that has made some of its routes already.
 ghost use Rattle.std.specs.Prelude.{◌≡◌, ◌++◌, All, IfErr, IfOk, OnOk, filter, map};
-ghost use Rattle.prt_spelling.specs.declared.form.ProtocolForm.TheVariants.{ByNumber};
+ghost use Rattle.prt_spelling.specs.declared.form.NameForm.TheVariants.{ByNumber};
 ghost use Rattle.prt_diff.specs.Replacing.{AreLeftOut, clearing, direct_routes, first_local, first_rule, gateway_routes, is_put_back, plain_rules};
 ghost use Rattle.prt_diff.specs.Replacing.{replacing_commands, replacing_text, spare_rule};
 ghost use Rattle.prt_diff.specs.Routes.{replace_route};

@@ -2,7 +2,7 @@
 ghost use Rattle.std.specs.Prelude.{◌≡◌, ◌++◌, All, IfErr, IfOk, OnOk, codes};
 ghost use Rattle.prt_spelling.specs.Line.{line_by};
 ghost use Rattle.prt_spelling.specs.Spelled.{IsWhyNotSpelled};
-ghost use Rattle.prt_spelling.specs.declared.form.ProtocolForm.TheVariants.{ByName, ByNumber};
+ghost use Rattle.prt_spelling.specs.declared.form.NameForm.TheVariants.{ByName, ByNumber};
 ghost use Rattle.prt_diff.specs.Plan.{changes};
 ghost use Rattle.prt_diff.specs.Text.{IsAskedFor, IsWhyNotWritten, batch_text, changes_text, commands_text, text_by};
 
@@ -11,7 +11,7 @@ use crate::fence::Fence;
 use crate::refusal::LineError;
 use prt_command::Command;
 use prt_listing::push_text;
-use prt_spelling::{ProtocolForm, SpellingError, line_by};
+use prt_spelling::{NameForm, SpellingError, line_by};
 use prt_version::Version;
 use std::alloc::{AllocError, Global};
 
@@ -23,11 +23,11 @@ fn push_line(text: &mut Vec<u8>, line: &[u8]) -> Result<(), AllocError>
     push_text(text, "\n")
 }
 
-/// Appends the line of the command, with each protocol in this form, and a newline.
+/// Appends the line of the command, with protocols and scopes in this form, and a newline.
 fn push_command(
     alloc: Global,
     text: &mut Vec<u8>,
-    form: ProtocolForm,
+    form: NameForm,
     command: &Command,
 ) -> Result<(), SpellingError>
     ensures text { OnOk result (text.new.items ≡ text.old.items ++ (line_by form command.now ++ codes "\n")) }
@@ -41,8 +41,8 @@ fn push_command(
     Ok(())
 }
 
-/// Formats the commands as lines, with each protocol in this form.
-fn text_by(alloc: Global, form: ProtocolForm, commands: &[Command]) -> Result<Vec<u8>, LineError>
+/// Formats the commands as lines, with protocols and scopes in this form.
+fn text_by(alloc: Global, form: NameForm, commands: &[Command]) -> Result<Vec<u8>, LineError>
     ensures text { IfOk result (λ text. text.items ≡ text_by form commands.now) }
     ensures read { IfOk result (λ text. All (IsAskedFor form) commands.now) }
     ensures reason { IfErr result (λ reason. IsWhyNotWritten commands.now reason) }
@@ -58,7 +58,7 @@ fn text_by(alloc: Global, form: ProtocolForm, commands: &[Command]) -> Result<Ve
     Ok(text)
 }
 
-/// Formats the commands as lines with the names of protocols: each asks for its command, and ends with a newline.
+/// Formats the commands as lines with the names of protocols and scopes: each asks for its command, and ends with a newline.
 ///
 /// # Errors
 ///
@@ -69,10 +69,10 @@ pub fn commands_text(alloc: Global, commands: &[Command]) -> Result<Vec<u8>, Lin
     ensures read { IfOk result (λ text. All (IsAskedFor ByName) commands.now) }
     ensures reason { IfErr result (λ reason. IsWhyNotWritten commands.now reason) }
 {
-    text_by(alloc, ProtocolForm::ByName, commands)
+    text_by(alloc, NameForm::ByName, commands)
 }
 
-/// Formats the commands as lines for `ip -batch`, with the numbers of protocols: each asks for its command, and ends with a
+/// Formats the commands as lines for `ip -batch`, with the numbers of protocols and scopes: each asks for its command, and ends with a
 /// newline.
 ///
 /// # Errors
@@ -83,7 +83,7 @@ pub fn batch_text(alloc: Global, commands: &[Command]) -> Result<Vec<u8>, LineEr
     ensures read { IfOk result (λ text. All (IsAskedFor ByNumber) commands.now) }
     ensures reason { IfErr result (λ reason. IsWhyNotWritten commands.now reason) }
 {
-    text_by(alloc, ProtocolForm::ByNumber, commands)
+    text_by(alloc, NameForm::ByNumber, commands)
 }
 
 /// Formats the commands that [`changes`] computes as lines for `ip -batch`. If nothing differs there are none.

@@ -15,7 +15,7 @@ use Rattle.prt_spelling.specs.Fits.{RouteChoiceFits}
 use Rattle.prt_spelling.specs.Parts.{route_choice_parts, said}
 use Rattle.prt_spelling.specs.Plain.{is_plain_name}
 use Rattle.prt_spelling.specs.Spelled.{is_from_one, is_spelled_choice}
-use Rattle.prt_spelling.specs.declared.form.ProtocolForm.{ProtocolForm}
+use Rattle.prt_spelling.specs.declared.form.NameForm.{NameForm}
 use Rattle.prt_spelling.proofs.Reading.{IsReadAs, read_by_parts}
 use Rattle.prt_spelling.proofs.Texts.{Reads, reads_none}
 use Rattle.prt_spelling.proofs.RouteItems.{destination_reads, dev_reads, from_one, metric_reads, proto_reads, scope_reads, src_reads, table_by, target_by, unsaid_back, via_reads, with_dev, with_proto, with_scope, with_src, with_table, with_target, with_via}
@@ -38,7 +38,7 @@ choice_items choice = record no_items {
 abbrev pub choice_length : ℕ → ℕ
 choice_length k = 11 + (1 + (18 + (1 + (19 + (1 + (19 + (1 + (16 + (1 + (16 + (1 + (16 + (1 + (19 + (1 + (17 + (1 + k)))))))))))))))))
 
-pub choice_reads : (form : ProtocolForm) (choice : RouteChoice) → RouteChoiceFits choice → 1 ≤ choice.table → is_plain_name choice.dev ≡ true → (k : ℕ) (last : Items) (parts : List (Option (List ℕ))) → Reads route_edit_line k (choice_items choice) last parts → Reads route_edit_line (choice_length k) no_items last (route_choice_parts form choice ++ parts)
+pub choice_reads : (form : NameForm) (choice : RouteChoice) → RouteChoiceFits choice → 1 ≤ choice.table → is_plain_name choice.dev ≡ true → (k : ℕ) (last : Items) (parts : List (Option (List ℕ))) → Reads route_edit_line k (choice_items choice) last parts → Reads route_edit_line (choice_length k) no_items last (route_choice_parts form choice ++ parts)
 choice_reads form choice fits some plain k last parts rest =
     let g1 : Items = with_target choice.kind choice.prefix in
     let g2 : Items = with_via g1 choice.via in
@@ -52,7 +52,7 @@ choice_reads form choice fits some plain k last parts rest =
     ((dev_reads route_edit_line refl choice.dev g2 refl plain).more _ last _
     ((table_by choice.table (choice.table == 254) g3 refl some fits.table).more _ last _
     ((proto_reads form route_edit_line refl choice.proto g4 refl fits.proto).more _ last _
-    ((scope_reads route_edit_line refl choice.scope g5 refl fits.scope).more _ last _
+    ((scope_reads form route_edit_line refl choice.scope g5 refl fits.scope).more _ last _
     ((src_reads choice.src g6 refl fits.src).more _ last _
     ((metric_reads choice.metric g7 refl fits.metric).more k last parts rest)))))))
 
@@ -74,7 +74,7 @@ choice_asks choice some =
     ∙ ap (λ metric. Ok (requests.Command (commands.RouteDel (chosen choice.table metric choice)))) (metric_back choice.metric some)
 
 -- the line of a route to be deleted
-pub choice_read : (form : ProtocolForm) (choice : RouteChoice) → RouteChoiceFits choice → is_spelled_choice choice ≡ true → IsReadAs (spaced (Some (codes "route del") ∷ route_choice_parts form choice)) (commands.RouteDel choice)
+pub choice_read : (form : NameForm) (choice : RouteChoice) → RouteChoiceFits choice → is_spelled_choice choice ≡ true → IsReadAs (spaced (Some (codes "route del") ∷ route_choice_parts form choice)) (commands.RouteDel choice)
 choice_read form choice fits spelled =
     let first = both_true (nat_le 1 choice.table && is_from_one choice.metric) (is_plain_name choice.dev) spelled in
     let second = both_true (nat_le 1 choice.table) (is_from_one choice.metric) first.0 in

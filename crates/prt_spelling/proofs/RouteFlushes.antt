@@ -32,7 +32,7 @@ use Rattle.prt_spelling.specs.Fits.{RangeFits, SelectorFits}
 use Rattle.prt_spelling.specs.Parts.{range_part, ranged, selector_parts, tables_text}
 use Rattle.prt_spelling.specs.Plain.{is_plain_name}
 use Rattle.prt_spelling.specs.Spelled.{is_from_one, is_spelled_selector}
-use Rattle.prt_spelling.specs.declared.form.ProtocolForm.{ProtocolForm}
+use Rattle.prt_spelling.specs.declared.form.NameForm.{NameForm}
 use Rattle.prt_spelling.proofs.Digits.{decimal_is}
 use Rattle.prt_spelling.proofs.Letters.{digits_begin, no_all}
 use Rattle.prt_spelling.proofs.Reading.{IsReadAs, read_by_parts}
@@ -126,7 +126,7 @@ selector_items selector = record no_items {
   dev = selector.dev;
 }
 
-selector_reads : (form : ProtocolForm) (selector : Selector) → SelectorFits selector → is_from_one selector.table ≡ true → is_plain_name selector.dev ≡ true → Reads route_list_line 113 no_items (selector_items selector) (selector_parts form selector)
+selector_reads : (form : NameForm) (selector : Selector) → SelectorFits selector → is_from_one selector.table ≡ true → is_plain_name selector.dev ≡ true → Reads route_list_line 113 no_items (selector_items selector) (selector_parts form selector)
 selector_reads form selector fits some plain =
     let last : Items = selector_items selector in
     let g1 : Items = with_range no_items (said_range selector.range) in
@@ -138,7 +138,7 @@ selector_reads form selector fits some plain =
     ((tables_read selector.table g1 refl some fits.table).more 71 last _
     ((type_reads selector.kind g2 refl).more 54 last _
     ((proto_reads form route_list_line refl selector.proto g3 refl fits.proto).more 37 last _
-    ((scope_reads route_list_line refl selector.scope g4 refl fits.scope).more 20 last _
+    ((scope_reads form route_list_line refl selector.scope g4 refl fits.scope).more 20 last _
     ((dev_reads route_list_line refl selector.dev g5 refl plain).more 0 last []
     (reads_none route_list_line last))))))
 
@@ -170,7 +170,7 @@ selector_asks selector =
     ∙ ap (λ range. Ok (requests.Command (commands.RouteFlush (selected selector.table range selector)))) (range_back selector.range)
 
 -- the line of routes to be flushed
-pub selector_read : (form : ProtocolForm) (selector : Selector) → SelectorFits selector → is_spelled_selector selector ≡ true → IsReadAs (spaced (Some (codes "route flush") ∷ selector_parts form selector)) (commands.RouteFlush selector)
+pub selector_read : (form : NameForm) (selector : Selector) → SelectorFits selector → is_spelled_selector selector ≡ true → IsReadAs (spaced (Some (codes "route flush") ∷ selector_parts form selector)) (commands.RouteFlush selector)
 selector_read form selector fits spelled =
     let each = both_true (is_from_one selector.table) (is_plain_name selector.dev) spelled in
     read_by_parts (codes "route flush") (codes "route") (codes "flush") route_list_line route_flush_request 11 113 (selector_items selector) (selector_parts form selector) (commands.RouteFlush selector)

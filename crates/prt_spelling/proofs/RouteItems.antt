@@ -29,12 +29,12 @@ use Rattle.prt_command.specs.declared.item.ItemWord.TheVariants.{Keyword}
 use Rattle.prt_command.specs.declared.item.PrefixWord.TheVariants as before
 use Rattle.prt_command.specs.declared.item.Slot.TheVariants.{Destination, Via, Dev, Table, Proto, Scope, Src, Metric}
 use Rattle.prt_command.specs.declared.item.Target.{Target}
-use Rattle.prt_listing.specs.Parts.{is_everything, name_or_number, part, prefix_or, table_text}
+use Rattle.prt_listing.specs.Parts.{is_everything, part, prefix_or, table_text}
 use Rattle.prt_spelling.specs.Fits.{AddrFits}
-use Rattle.prt_spelling.specs.Parts.{proto_part, protocol_text, said, scope_part}
+use Rattle.prt_spelling.specs.Parts.{proto_part, protocol_text, said, scope_part, scope_text}
 use Rattle.prt_spelling.specs.Plain.{is_plain_name}
-use Rattle.prt_spelling.specs.declared.form.ProtocolForm.{ProtocolForm}
-use Rattle.prt_spelling.specs.declared.form.ProtocolForm.TheVariants.{ByName, ByNumber}
+use Rattle.prt_spelling.specs.declared.form.NameForm.{NameForm}
+use Rattle.prt_spelling.specs.declared.form.NameForm.TheVariants.{ByName, ByNumber}
 use Rattle.prt_spelling.proofs.Digits.{decimal_is, number_back}
 use Rattle.prt_spelling.proofs.Letters.{begin_more, digits_begin, no_item, no_kind, no_protocol, no_scope, no_table, no_to}
 use Rattle.prt_spelling.proofs.Texts.{IsWord, Reads, ReadsOne, joined, opened_goes, reads_keyword, reads_left_out, reads_shown, word_text}
@@ -112,7 +112,7 @@ table_by n false given new some fits =
     reads_keyword route_edit_line 5 10 given Table (codes "table") (table_text n) (item.Table n) refl (ap is_some new) (ap (λ o. map_ok item.Table (ok_or o BadTable)) (table_back n some fits))
     (record { some = omega arith; plain = refl; short = omega arith }) (named_word tables n refl fits)
 
-pub protocol_back : (form : ProtocolForm) (n : ℕ) → n ≤ 255 → protocol (protocol_text form n) ≡ Some n
+pub protocol_back : (form : NameForm) (n : ℕ) → n ≤ 255 → protocol (protocol_text form n) ≡ Some n
 protocol_back ByName n fits =
     ap (keep (λ n. nat_le n 255)) (spelled_back protocols n (refl, (refl, (refl, (refl, (refl, (refl, (refl, (refl, (refl, (refl, (refl, tt))))))))))) (λ b. no_protocol (decimal n) b) (omega arith))
     ∙ ap (λ b. if b then Some n else None) (is_byte n fits)
@@ -122,26 +122,35 @@ protocol_back ByNumber n fits =
     ∙ ap (keep (λ n. nat_le n 255)) (number_back n (omega arith))
     ∙ ap (λ b. if b then Some n else None) (is_byte n fits)
 
-protocol_word : (form : ProtocolForm) (n : ℕ) → n ≤ 255 → IsWord 10 (protocol_text form n)
+protocol_word : (form : NameForm) (n : ℕ) → n ≤ 255 → IsWord 10 (protocol_text form n)
 protocol_word ByName n fits = named_word protocols n refl (omega (arith, fits))
 protocol_word ByNumber n fits = named_word [] n refl (omega (arith, fits))
 
-pub proto_reads : (form : ProtocolForm) (line : LineKind) → word_in line.entries (codes "proto") ≡ Some (Keyword Proto) → (o : Option ℕ) (given : Items) → given.proto ≡ None → IfSome o (λ n. n ≤ 255) → ReadsOne line 16 given (with_proto given o) (proto_part form o)
+pub proto_reads : (form : NameForm) (line : LineKind) → word_in line.entries (codes "proto") ≡ Some (Keyword Proto) → (o : Option ℕ) (given : Items) → given.proto ≡ None → IfSome o (λ n. n ≤ 255) → ReadsOne line 16 given (with_proto given o) (proto_part form o)
 proto_reads form line begins None given new fits = reads_left_out line 16 given (with_proto given None) (ap (with_proto given) new)
 proto_reads form line begins (Some n) given new fits =
     reads_keyword line 5 10 given Proto (codes "proto") (protocol_text form n) (item.Proto n) begins (ap is_some new) (ap (λ o. map_ok item.Proto (ok_or o BadNumber)) (protocol_back form n fits))
     (record { some = omega arith; plain = refl; short = omega arith }) (protocol_word form n fits)
 
-pub scope_back : (n : ℕ) → n ≤ 255 → scope (name_or_number scopes n) ≡ Some n
-scope_back n fits =
+pub scope_back : (form : NameForm) (n : ℕ) → n ≤ 255 → scope (scope_text form n) ≡ Some n
+scope_back ByName n fits =
     ap (keep (λ n. nat_le n 255)) (spelled_back scopes n (refl, (refl, (refl, (refl, (refl, tt))))) (λ b. no_scope (decimal n) b) (omega arith))
     ∙ ap (λ b. if b then Some n else None) (is_byte n fits)
+scope_back ByNumber n fits =
+    let is = decimal_is n (omega arith) in
+    ap (λ o. keep (λ n. nat_le n 255) (option_or o (number (decimal n)))) (no_scope (decimal n) (digits_begin (decimal n) is.some is.digits))
+    ∙ ap (keep (λ n. nat_le n 255)) (number_back n (omega arith))
+    ∙ ap (λ b. if b then Some n else None) (is_byte n fits)
 
-pub scope_reads : (line : LineKind) → word_in line.entries (codes "scope") ≡ Some (Keyword Scope) → (o : Option ℕ) (given : Items) → given.scope ≡ None → IfSome o (λ n. n ≤ 255) → ReadsOne line 16 given (with_scope given o) (scope_part o)
-scope_reads line begins None given new fits = reads_left_out line 16 given (with_scope given None) (ap (with_scope given) new)
-scope_reads line begins (Some n) given new fits =
-    reads_keyword line 5 10 given Scope (codes "scope") (name_or_number scopes n) (item.Scope n) begins (ap is_some new) (ap (λ o. map_ok item.Scope (ok_or o BadNumber)) (scope_back n fits))
-    (record { some = omega arith; plain = refl; short = omega arith }) (named_word scopes n refl (omega (arith, fits)))
+scope_word : (form : NameForm) (n : ℕ) → n ≤ 255 → IsWord 10 (scope_text form n)
+scope_word ByName n fits = named_word scopes n refl (omega (arith, fits))
+scope_word ByNumber n fits = named_word [] n refl (omega (arith, fits))
+
+pub scope_reads : (form : NameForm) (line : LineKind) → word_in line.entries (codes "scope") ≡ Some (Keyword Scope) → (o : Option ℕ) (given : Items) → given.scope ≡ None → IfSome o (λ n. n ≤ 255) → ReadsOne line 16 given (with_scope given o) (scope_part form o)
+scope_reads form line begins None given new fits = reads_left_out line 16 given (with_scope given None) (ap (with_scope given) new)
+scope_reads form line begins (Some n) given new fits =
+    reads_keyword line 5 10 given Scope (codes "scope") (scope_text form n) (item.Scope n) begins (ap is_some new) (ap (λ o. map_ok item.Scope (ok_or o BadNumber)) (scope_back form n fits))
+    (record { some = omega arith; plain = refl; short = omega arith }) (scope_word form n fits)
 
 pub metric_reads : (o : Option ℕ) (given : Items) → given.metric ≡ None → IfSome o (λ n. n < 2 ^ 32) → ReadsOne route_edit_line 17 given (with_metric given o) (part (codes "metric") (option_map decimal o))
 metric_reads None given new fits = reads_left_out route_edit_line 17 given (with_metric given None) (ap (with_metric given) new)

@@ -17,22 +17,20 @@ use Rattle.prt_command.specs.Reading.{words_request}
 use Rattle.prt_command.specs.Requests.{refuse_if, route_of, route_request, scope_of}
 use Rattle.prt_command.specs.Scan.{items_of}
 use Rattle.prt_command.specs.Then.{◌>>=◌}
-use Rattle.prt_command.specs.declared.item.Item.TheVariants as item
 use Rattle.prt_command.specs.declared.item.Items.{Items}
-use Rattle.prt_command.specs.declared.item.Slot.TheVariants.{Scope}
 use Rattle.prt_command.specs.declared.request.Command.{Command}
 use Rattle.prt_command.specs.declared.request.Request.{Request}
 use Rattle.prt_command.specs.declared.request.Request.TheVariants as requests
 use Rattle.prt_listing.specs.Parts.{spaced}
 use Rattle.prt_spelling.specs.Fits.{RouteChoiceFits, RouteFits}
-use Rattle.prt_spelling.specs.Parts.{given_of_route, global_part, has_unsaid_scope, new_route_parts, said}
+use Rattle.prt_spelling.specs.Parts.{given_of_route, global_part, has_unsaid_scope, new_route_parts, said, scope_part}
 use Rattle.prt_spelling.specs.Plain.{is_plain_name}
 use Rattle.prt_spelling.specs.Spelled.{is_spelled_route}
-use Rattle.prt_spelling.specs.declared.form.ProtocolForm.{ProtocolForm}
+use Rattle.prt_spelling.specs.declared.form.NameForm.{NameForm}
 use Rattle.prt_spelling.proofs.Reading.{IsReadAs, one_request, read_by_parts}
-use Rattle.prt_spelling.proofs.Texts.{IsText, Reads, ReadsOne, reads_keyword, reads_left_out, reads_none}
+use Rattle.prt_spelling.proofs.Texts.{IsText, Reads, ReadsOne, reads_left_out, reads_none}
 use Rattle.prt_spelling.proofs.RouteChoices.{choice_items, choice_reads}
-use Rattle.prt_spelling.proofs.RouteItems.{unsaid_back, with_scope}
+use Rattle.prt_spelling.proofs.RouteItems.{scope_reads, unsaid_back, with_scope}
 use Rattle.prt_spelling.proofs.Words.{both_true}
 
 -- ---- what a line says of a new route
@@ -41,11 +39,9 @@ use Rattle.prt_spelling.proofs.Words.{both_true}
 abbrev said_global : Bool → Option ℕ → Option ℕ
 said_global b o = if b then Some 0 else o
 
-global_by : (b : Bool) (given : Items) → (b ≡ true → given.scope ≡ None) → ReadsOne route_edit_line 12 given (with_scope given (said_global b given.scope)) (if b then Some (codes "scope global") else None)
-global_by false given new = reads_left_out route_edit_line 12 given given refl
-global_by true given new =
-    reads_keyword route_edit_line 5 6 given Scope (codes "scope") (codes "global") (item.Scope 0) refl (ap is_some (new refl)) refl
-    (record { some = omega arith; plain = refl; short = omega arith }) (record { some = omega arith; plain = refl; short = omega arith })
+global_by : (form : NameForm) (b : Bool) (given : Items) → (b ≡ true → given.scope ≡ None) → ReadsOne route_edit_line 16 given (with_scope given (said_global b given.scope)) (if b then scope_part form (Some 0) else None)
+global_by form false given new = reads_left_out route_edit_line 16 given given refl
+global_by form true given new = scope_reads form route_edit_line refl (Some 0) given (new refl) (omega arith)
 
 abbrev made : (table metric proto scope : ℕ) → Block → Kind → (via : Option Addr) → (dev : Option Word) → (src : Option Addr) → Route
 made table metric proto scope prefix kind via dev src = record { table = table; prefix = prefix; metric = metric; kind = kind; via = via; dev = dev; src = src; proto = proto; scope = scope }
@@ -74,10 +70,10 @@ given_fits route fits below = record {
   scope = said_fits (λ n. n ≤ 255) route.scope (route.scope == 0) fits.scope;
 }
 
-route_reads : (form : ProtocolForm) (route : Route) → RouteFits route → 1 ≤ route.table → route.table < 2 ^ 32 → is_plain_name route.dev ≡ true → Reads route_edit_line 173 no_items (said_of route) (new_route_parts form route)
+route_reads : (form : NameForm) (route : Route) → RouteFits route → 1 ≤ route.table → route.table < 2 ^ 32 → is_plain_name route.dev ≡ true → Reads route_edit_line 177 no_items (said_of route) (new_route_parts form route)
 route_reads form route fits some below plain =
-    choice_reads form (given_of_route route) (given_fits route fits below) some plain 13 (said_of route) (global_part route ∷ [])
-    ((global_by (has_unsaid_scope route) (choice_items (given_of_route route)) (unsaid_scope_by _ (route.scope == 0) route.scope)).more 0 (said_of route) []
+    choice_reads form (given_of_route route) (given_fits route fits below) some plain 17 (said_of route) (global_part form route ∷ [])
+    ((global_by form (has_unsaid_scope route) (choice_items (given_of_route route)) (unsaid_scope_by _ (route.scope == 0) route.scope)).more 0 (said_of route) []
     (reads_none route_edit_line (said_of route)))
 
 -- ---- the route that they ask for
@@ -137,9 +133,9 @@ plain_facts route h =
     record { some = grind (arith, nat_tests, first.0); below = grind (arith, nat_tests, first.1); suits = second.1; name = each.1 }
 
 -- the line of a route to be put, by its verb
-pub route_read : (form : ProtocolForm) (command : Route → Command) (front : List ℕ) (verb : Word) (m : ℕ) → IsText m front (codes "route" ∷ verb ∷ []) → m ≤ 800 → ((ws : List Word) → words_request (codes "route" ∷ verb ∷ ws) ≡ (items_of route_edit_line no_items ws >>= route_request command) >>= one_request) → (route : Route) → RouteFits route → is_spelled_route route ≡ true → IsReadAs (spaced (Some front ∷ new_route_parts form route)) (command route)
+pub route_read : (form : NameForm) (command : Route → Command) (front : List ℕ) (verb : Word) (m : ℕ) → IsText m front (codes "route" ∷ verb ∷ []) → m ≤ 800 → ((ws : List Word) → words_request (codes "route" ∷ verb ∷ ws) ≡ (items_of route_edit_line no_items ws >>= route_request command) >>= one_request) → (route : Route) → RouteFits route → is_spelled_route route ≡ true → IsReadAs (spaced (Some front ∷ new_route_parts form route)) (command route)
 route_read form command front verb m is short begins route fits spelled =
     let facts = plain_facts route spelled in
-    read_by_parts front (codes "route") verb route_edit_line (route_request command) m 173 (said_of route) (new_route_parts form route) (command route) is begins
+    read_by_parts front (codes "route") verb route_edit_line (route_request command) m 177 (said_of route) (new_route_parts form route) (command route) is begins
     (route_reads form route fits facts.some facts.below facts.name) (omega (arith, short))
     (asks_by command route.table route.metric route.proto route.scope route.prefix route.kind route.via route.dev route.src facts.suits)

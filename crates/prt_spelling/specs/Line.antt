@@ -4,8 +4,8 @@ use Rattle.prt_command.specs.declared.request.Command.{Command}
 use Rattle.prt_command.specs.declared.request.Command.TheVariants.{RouteAdd, RouteChange, RouteReplace, RouteDel, RouteFlush, RuleAdd, RuleDel, RuleFlush}
 use Rattle.prt_listing.specs.Parts.{spaced}
 use Rattle.prt_spelling.specs.Parts.{given_of, new_route_parts, route_choice_parts, rule_choice_parts, selector_parts}
-use Rattle.prt_spelling.specs.declared.form.ProtocolForm.{ProtocolForm}
-use Rattle.prt_spelling.specs.declared.form.ProtocolForm.TheVariants.{ByName}
+use Rattle.prt_spelling.specs.declared.form.NameForm.{NameForm}
+use Rattle.prt_spelling.specs.declared.form.NameForm.TheVariants.{ByName}
 
 -- its object and its verb
 abbrev pub verb_words : Command → List ℕ
@@ -19,7 +19,7 @@ verb_words (RuleDel choice) = codes "rule del"
 verb_words RuleFlush = codes "rule flush"
 
 -- what it says after them
-abbrev pub command_parts : ProtocolForm → Command → List (Option (List ℕ))
+abbrev pub command_parts : NameForm → Command → List (Option (List ℕ))
 command_parts form (RouteAdd route) = new_route_parts form route
 command_parts form (RouteChange route) = new_route_parts form route
 command_parts form (RouteReplace route) = new_route_parts form route
@@ -30,9 +30,9 @@ command_parts form (RuleDel choice) = rule_choice_parts choice
 command_parts form RuleFlush = []
 
 -- the line, without a newline
-abbrev pub line_by : ProtocolForm → Command → List ℕ
+abbrev pub line_by : NameForm → Command → List ℕ
 line_by form command = spaced (Some (verb_words command) ∷ command_parts form command)
 
--- the line with the names of protocols
+-- the line with the names of protocols and scopes
 abbrev pub command_line : Command → List ℕ
 command_line command = line_by ByName command

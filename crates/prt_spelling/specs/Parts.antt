@@ -20,27 +20,30 @@ use Rattle.prt_listing.specs.Parts.{is_everything, mark_text, name_or_number, pa
 use Rattle.prt_listing.specs.RouteText.{table_part}
 use Rattle.prt_listing.specs.RuleText.{action_text, not_part}
 use Rattle.prt_listing.specs.declared.route.TablePart.TheVariants.{Shown}
-use Rattle.prt_spelling.specs.declared.form.ProtocolForm.{ProtocolForm}
-use Rattle.prt_spelling.specs.declared.form.ProtocolForm.TheVariants.{ByName, ByNumber}
+use Rattle.prt_spelling.specs.declared.form.NameForm.{NameForm}
+use Rattle.prt_spelling.specs.declared.form.NameForm.TheVariants.{ByName, ByNumber}
 
 -- ---- routes
 
--- the protocols that have a name in a line
-abbrev pub names_in : ProtocolForm → List (Word × ℕ)
-names_in ByName = protocols
-names_in ByNumber = []
+-- those of these names that a line has
+abbrev pub names_in : NameForm → List (Word × ℕ) → List (Word × ℕ)
+names_in ByName names = names
+names_in ByNumber names = []
 
-abbrev pub protocol_text : ProtocolForm → ℕ → List ℕ
-protocol_text form proto = name_or_number (names_in form) proto
+abbrev pub protocol_text : NameForm → ℕ → List ℕ
+protocol_text form proto = name_or_number (names_in form protocols) proto
 
-abbrev pub proto_part : ProtocolForm → Option ℕ → Option (List ℕ)
+abbrev pub scope_text : NameForm → ℕ → List ℕ
+scope_text form scope = name_or_number (names_in form scopes) scope
+
+abbrev pub proto_part : NameForm → Option ℕ → Option (List ℕ)
 proto_part form proto = part (codes "proto") (option_map (protocol_text form) proto)
 
-abbrev pub scope_part : Option ℕ → Option (List ℕ)
-scope_part scope = part (codes "scope") (option_map (name_or_number scopes) scope)
+abbrev pub scope_part : NameForm → Option ℕ → Option (List ℕ)
+scope_part form scope = part (codes "scope") (option_map (scope_text form) scope)
 
 -- a route to be deleted: all that is given, also what a listing leaves out, except for table main
-abbrev pub route_choice_parts : ProtocolForm → RouteChoice → List (Option (List ℕ))
+abbrev pub route_choice_parts : NameForm → RouteChoice → List (Option (List ℕ))
 route_choice_parts form choice =
     option_map kind_name choice.kind
     ∷ Some (prefix_or (codes "default") choice.prefix)
@@ -48,7 +51,7 @@ route_choice_parts form choice =
     ∷ part (codes "dev") choice.dev
     ∷ table_part Shown choice.table
     ∷ proto_part form choice.proto
-    ∷ scope_part choice.scope
+    ∷ scope_part form choice.scope
     ∷ part (codes "src") (option_map addr_text choice.src)
     ∷ part (codes "metric") (option_map decimal choice.metric)
     ∷ []
@@ -79,12 +82,12 @@ given_of_route route = record {
 abbrev pub has_unsaid_scope : Route → Bool
 has_unsaid_scope route = is_same_kind Unicast route.kind && is_none route.via && route.scope == global_scope
 
-abbrev pub global_part : Route → Option (List ℕ)
-global_part route = if has_unsaid_scope route then Some (codes "scope global") else None
+abbrev pub global_part : NameForm → Route → Option (List ℕ)
+global_part form route = if has_unsaid_scope route then scope_part form (Some global_scope) else None
 
 -- a route to be put: what is given of it, and scope global if a new one would not have it
-abbrev pub new_route_parts : ProtocolForm → Route → List (Option (List ℕ))
-new_route_parts form route = route_choice_parts form (given_of_route route) ++ global_part route ∷ []
+abbrev pub new_route_parts : NameForm → Route → List (Option (List ℕ))
+new_route_parts form route = route_choice_parts form (given_of_route route) ++ global_part form route ∷ []
 
 -- a prefix after the word for what is taken by it
 abbrev pub ranged : List ℕ → Block → Option (List ℕ)
@@ -102,13 +105,13 @@ tables_text None = codes "all"
 tables_text (Some table) = table_text table
 
 -- The routes to be flushed: all that is given. The table is always said, since a flush has to say something.
-abbrev pub selector_parts : ProtocolForm → Selector → List (Option (List ℕ))
+abbrev pub selector_parts : NameForm → Selector → List (Option (List ℕ))
 selector_parts form selector =
     range_part selector.range
     ∷ part (codes "table") (Some (tables_text selector.table))
     ∷ part (codes "type") (option_map kind_name selector.kind)
     ∷ proto_part form selector.proto
-    ∷ scope_part selector.scope
+    ∷ scope_part form selector.scope
     ∷ part (codes "dev") selector.dev
     ∷ []
 

@@ -1,6 +1,6 @@
-/// How a line gives the protocol of a route.
+/// How a line gives the protocol and the scope of a route.
 #[derive(Clone, Copy)]
-pub enum ProtocolForm {
+pub enum NameForm {
     /// By its name, if it has one, as a listing shows it.
     ByName,
     /// By its number. In one `ip -batch` a number between two equal names takes the place of the second, and the names of a host

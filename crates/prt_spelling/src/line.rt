@@ -9,7 +9,7 @@ ghost use Rattle.prt_spelling.specs.Spelled.{IsWhyNotSpelled};
 ghost use Rattle.prt_spelling.specs.Steps.{after_space, after_spaces};
 
 use crate::fits::recall_command;
-use crate::form::ProtocolForm;
+use crate::form::NameForm;
 use crate::parts::{
     given_of, given_of_route, global_part, route_choice_parts, rule_choice_parts, selector_parts,
 };
@@ -44,11 +44,11 @@ fn push_all(out: &mut Vec<u8>, parts: &[Option<Part>]) -> Result<(), AllocError>
 }
 
 /// Appends what a line says of a route to be put.
-fn push_new_route(out: &mut Vec<u8>, form: ProtocolForm, route: &Route) -> Result<(), AllocError>
+fn push_new_route(out: &mut Vec<u8>, form: NameForm, route: &Route) -> Result<(), AllocError>
     ensures { OnOk result (out.new.items ≡ out.old.items ++ after_spaces (new_route_parts form route.now)) }
 {
     push_all(out, &route_choice_parts(form, &given_of_route(route)))?;
-    push_all(out, &[global_part(route)])
+    push_all(out, &[global_part(form, route)])
 }
 
 /// Returns the object and the verb of the command.
@@ -68,7 +68,7 @@ fn verb_words(command: &Command) -> &'static str
 }
 
 /// Appends what the line says after its verb.
-fn push_command(out: &mut Vec<u8>, form: ProtocolForm, command: &Command) -> Result<(), AllocError>
+fn push_command(out: &mut Vec<u8>, form: NameForm, command: &Command) -> Result<(), AllocError>
     ensures { OnOk result (out.new.items ≡ out.old.items ++ after_spaces (command_parts form command.now)) }
 {
     match command {
@@ -83,15 +83,15 @@ fn push_command(out: &mut Vec<u8>, form: ProtocolForm, command: &Command) -> Res
     }
 }
 
-/// Appends the line of the command, with each protocol in this form, and without a newline.
-fn push_line_by(out: &mut Vec<u8>, form: ProtocolForm, command: &Command) -> Result<(), AllocError>
+/// Appends the line of the command, with protocols and scopes in this form, and without a newline.
+fn push_line_by(out: &mut Vec<u8>, form: NameForm, command: &Command) -> Result<(), AllocError>
     ensures { OnOk result (out.new.items ≡ out.old.items ++ line_by form command.now) }
 {
     push_text(out, verb_words(command))?;
     push_command(out, form, command)
 }
 
-/// Appends the line of the command, with the names of protocols, and without a newline. It asks for the command if
+/// Appends the line of the command, with the names of protocols and scopes, and without a newline. It asks for the command if
 /// `is_spelled` is true of it.
 ///
 /// # Errors
@@ -100,21 +100,17 @@ fn push_line_by(out: &mut Vec<u8>, form: ProtocolForm, command: &Command) -> Res
 pub fn push_line(out: &mut Vec<u8>, command: &Command) -> Result<(), AllocError>
     ensures { OnOk result (out.new.items ≡ out.old.items ++ command_line command.now) }
 {
-    push_line_by(out, ProtocolForm::ByName, command)
+    push_line_by(out, NameForm::ByName, command)
 }
 
-/// Builds the line that asks for the command, with each protocol in this form, and without a newline.
+/// Builds the line that asks for the command, with protocols and scopes in this form, and without a newline.
 ///
 /// # Errors
 ///
 /// `NoLine` if no line asks for it: an interface has a name with `#`, a control byte or a byte above 0x7e; a table may
 /// not hold the route or the rule; or of what is to be deleted or flushed a table or a metric is 0, a length is above 32,
 /// or nothing is given. `NoMemory` if memory is refused.
-pub fn line_by(
-    alloc: Global,
-    form: ProtocolForm,
-    command: &Command,
-) -> Result<Vec<u8>, SpellingError>
+pub fn line_by(alloc: Global, form: NameForm, command: &Command) -> Result<Vec<u8>, SpellingError>
     ensures text { IfOk result (λ line. line.items ≡ line_by form command.now) }
     ensures read { IfOk result (λ line. reading line.items ≡ Ok (Some (requests.Command command.now))) }
     ensures reason { IfErr result (λ reason. IsWhyNotSpelled command.now reason) }
@@ -130,7 +126,7 @@ pub fn line_by(
     Ok(line)
 }
 
-/// Builds the line that asks for the command, with the names of protocols, and without a newline.
+/// Builds the line that asks for the command, with the names of protocols and scopes, and without a newline.
 ///
 /// # Errors
 ///
@@ -140,5 +136,5 @@ pub fn command_line(alloc: Global, command: &Command) -> Result<Vec<u8>, Spellin
     ensures read { IfOk result (λ line. reading line.items ≡ Ok (Some (requests.Command command.now))) }
     ensures reason { IfErr result (λ reason. IsWhyNotSpelled command.now reason) }
 {
-    line_by(alloc, ProtocolForm::ByName, command)
+    line_by(alloc, NameForm::ByName, command)
 }

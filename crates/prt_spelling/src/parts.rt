@@ -6,9 +6,9 @@ ghost use Rattle.prt_listing.specs.RuleText.{action_text};
 ghost use Rattle.prt_listing.specs.Steps.{part_of, value_text};
 ghost use Rattle.prt_spelling.specs.Parts.{given_mark_part, given_mark_text, given_of, given_of_route, global_part, has_unsaid_scope, is_zero_mark};
 ghost use Rattle.prt_spelling.specs.Parts.{prefix_part, proto_part, protocol_text, range_part, ranged, route_choice_parts, rule_choice_parts, said};
-ghost use Rattle.prt_spelling.specs.Parts.{said_kind, scope_part, selector_parts, tables_text};
+ghost use Rattle.prt_spelling.specs.Parts.{said_kind, scope_part, scope_text, selector_parts, tables_text};
 
-use crate::form::ProtocolForm;
+use crate::form::NameForm;
 use prt_command::NewRule;
 use prt_listing::{
     Part, TablePart, Value, action_part, addr_part, dev_part, is_everything, not_part, prefix_or,
@@ -25,17 +25,6 @@ fn has_unsaid_scope(route: &Route) -> bool
     ensures { result ≡ has_unsaid_scope route.now }
 {
     matches!(route.kind, Kind::Unicast) && route.via.is_none() && route.scope == GLOBAL_SCOPE
-}
-
-/// Says that the scope of a new route is global, if that has to be said.
-pub(crate) fn global_part(route: &Route) -> Option<Part>
-    ensures { part_of result ≡ global_part route.now }
-{
-    if has_unsaid_scope(route) {
-        Some(Part::Named("scope", Value::Text("global")))
-    } else {
-        None
-    }
 }
 
 /// Returns the kind before a destination, if one is given.
@@ -59,32 +48,53 @@ fn type_part(kind: Option<Kind>) -> Option<Part>
 }
 
 /// Returns the name of a protocol, if the form has one, or its number.
-fn proto_value(form: ProtocolForm, proto: u8) -> Value
+fn protocol_in(form: NameForm, proto: u8) -> Value
     ensures { value_text result ≡ protocol_text form proto }
 {
     match form {
-        ProtocolForm::ByName => protocol_value(proto),
-        ProtocolForm::ByNumber => Value::Number(u64::from(proto)),
+        NameForm::ByName => protocol_value(proto),
+        NameForm::ByNumber => Value::Number(u64::from(proto)),
     }
 }
 
 /// Returns the protocol, if one is given.
-fn proto_part(form: ProtocolForm, proto: Option<u8>) -> Option<Part>
+fn proto_part(form: NameForm, proto: Option<u8>) -> Option<Part>
     ensures { part_of result ≡ proto_part form proto }
 {
     match proto {
-        Some(proto) => Some(Part::Named("proto", proto_value(form, proto))),
+        Some(proto) => Some(Part::Named("proto", protocol_in(form, proto))),
         None => None,
     }
 }
 
+/// Returns the name of a scope, if the form has one, or its number.
+fn scope_in(form: NameForm, scope: u8) -> Value
+    ensures { value_text result ≡ scope_text form scope }
+{
+    match form {
+        NameForm::ByName => scope_value(scope),
+        NameForm::ByNumber => Value::Number(u64::from(scope)),
+    }
+}
+
 /// Returns the scope, if one is given.
-fn scope_part(scope: Option<u8>) -> Option<Part>
-    ensures { part_of result ≡ scope_part scope }
+fn scope_part(form: NameForm, scope: Option<u8>) -> Option<Part>
+    ensures { part_of result ≡ scope_part form scope }
 {
     match scope {
-        Some(scope) => Some(Part::Named("scope", scope_value(scope))),
+        Some(scope) => Some(Part::Named("scope", scope_in(form, scope))),
         None => None,
+    }
+}
+
+/// Says that the scope of a new route is global, if that has to be said.
+pub(crate) fn global_part(form: NameForm, route: &Route) -> Option<Part>
+    ensures { part_of result ≡ global_part form route.now }
+{
+    if has_unsaid_scope(route) {
+        scope_part(form, Some(GLOBAL_SCOPE))
+    } else {
+        None
     }
 }
 
@@ -99,7 +109,7 @@ fn number_part(word: &'static str, number: Option<u32>) -> Option<Part>
 }
 
 /// Lists what a line says of the route to be deleted.
-pub(crate) fn route_choice_parts(form: ProtocolForm, choice: &RouteChoice) -> [Option<Part>; 9]
+pub(crate) fn route_choice_parts(form: NameForm, choice: &RouteChoice) -> [Option<Part>; 9]
     ensures { map part_of result ≡ route_choice_parts form choice.now }
 {
     [
@@ -109,7 +119,7 @@ pub(crate) fn route_choice_parts(form: ProtocolForm, choice: &RouteChoice) -> [O
         dev_part("dev", choice.dev),
         table_part(TablePart::Shown, choice.table),
         proto_part(form, choice.proto),
-        scope_part(choice.scope),
+        scope_part(form, choice.scope),
         addr_part("src", choice.src),
         number_part("metric", choice.metric),
     ]
@@ -186,7 +196,7 @@ fn tables_value(table: Option<u32>) -> Value
 }
 
 /// Lists what a line says of the routes to be flushed.
-pub(crate) fn selector_parts(form: ProtocolForm, selector: &Selector) -> [Option<Part>; 6]
+pub(crate) fn selector_parts(form: NameForm, selector: &Selector) -> [Option<Part>; 6]
     ensures { map part_of result ≡ selector_parts form selector.now }
 {
     [
@@ -194,7 +204,7 @@ pub(crate) fn selector_parts(form: ProtocolForm, selector: &Selector) -> [Option
         Some(Part::Named("table", tables_value(selector.table))),
         type_part(selector.kind),
         proto_part(form, selector.proto),
-        scope_part(selector.scope),
+        scope_part(form, selector.scope),
         dev_part("dev", selector.dev),
     ]
 }

@@ -1,7 +1,7 @@
 use prt_command::{Command, Refusal, Request, read_line};
 use prt_route::{Addr, Dev, Kind, Prefix, Range, RouteChoice, Selector, read_dev};
 use prt_rule::RuleChoice;
-use prt_spelling::{ProtocolForm, SpellingError, command_line, line_by};
+use prt_spelling::{NameForm, SpellingError, command_line, line_by};
 use std::alloc::Global;
 use std::test::Fail;
 
@@ -80,7 +80,7 @@ fn line_of(alloc: Global, command: &Command) -> Result<Vec<u8>, Fail> {
 }
 
 /// Returns the line of the command that this line asks for, with each protocol in this form.
-fn spelled_again(alloc: Global, form: ProtocolForm, line: &str) -> Result<Vec<u8>, Fail> {
+fn spelled_again(alloc: Global, form: NameForm, line: &str) -> Result<Vec<u8>, Fail> {
     let Some(Request::Command(command)) = read_line(line.as_bytes())? else {
         return Err(Fail::from(Refusal::UnknownVerb));
     };
@@ -91,7 +91,7 @@ fn spelled_again(alloc: Global, form: ProtocolForm, line: &str) -> Result<Vec<u8
 }
 
 /// Returns the lines of the commands that these lines ask for, each with a newline.
-fn spelled(alloc: Global, form: ProtocolForm, lines: &str) -> Result<Vec<u8>, Fail> {
+fn spelled(alloc: Global, form: NameForm, lines: &str) -> Result<Vec<u8>, Fail> {
     let mut text = Vec::new(alloc);
     for line in lines.lines() {
         text.extend_from_slice(&spelled_again(alloc, form, line)?)?;
@@ -149,7 +149,7 @@ fn routes_of(table: u32) -> Selector {
 #[test]
 fn spells_each_verb(rt: HostRuntime) -> Result<(), Fail> {
     assert_eq!(rt;
-        spelled(rt.alloc(), ProtocolForm::ByName, TYPED)?.as_slice(),
+        spelled(rt.alloc(), NameForm::ByName, TYPED)?.as_slice(),
         SPELLED.as_bytes()
     );
     Ok(())
@@ -158,7 +158,7 @@ fn spells_each_verb(rt: HostRuntime) -> Result<(), Fail> {
 #[test]
 fn spells_what_is_spelled(rt: HostRuntime) -> Result<(), Fail> {
     assert_eq!(rt;
-        spelled(rt.alloc(), ProtocolForm::ByName, SPELLED)?.as_slice(),
+        spelled(rt.alloc(), NameForm::ByName, SPELLED)?.as_slice(),
         SPELLED.as_bytes()
     );
     Ok(())
@@ -168,7 +168,7 @@ fn spells_what_is_spelled(rt: HostRuntime) -> Result<(), Fail> {
 #[test]
 fn spells_the_numbers_of_protocols(rt: HostRuntime) -> Result<(), Fail> {
     assert_eq!(rt;
-        spelled(rt.alloc(), ProtocolForm::ByNumber, PROTOCOLS)?.as_slice(),
+        spelled(rt.alloc(), NameForm::ByNumber, PROTOCOLS)?.as_slice(),
         NUMBERED.as_bytes()
     );
     Ok(())

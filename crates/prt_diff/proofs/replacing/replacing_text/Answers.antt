@@ -1,6 +1,6 @@
 use Rattle.std.proofs.Common.{subst, ◌∙◌}
 use Rattle.std.specs.Prelude.{All, IfOk}
-use Rattle.prt_spelling.specs.declared.form.ProtocolForm.TheVariants.{ByNumber}
+use Rattle.prt_spelling.specs.declared.form.NameForm.TheVariants.{ByNumber}
 use Rattle.prt_diff.specs.Text.{IsAskedFor}
 use Rattle.prt_diff.proofs.replacing.replacing_text.Goals as goal
 
