@@ -16,7 +16,7 @@ use crate::asking::{REFUSED, ask_source, write_text};
 use crate::fencing::fence_beside;
 use crate::impact_of_diff::diff_with_impact;
 use crate::inquiry::Inquiry;
-use crate::left::{is_kernels, or_left, tell_left};
+use crate::left::{is_kernels, or_left, tell_left, tell_refused};
 use crate::reading::{host_names, read_whole, report_no_memory, report_unread};
 use prt_args::{DONE, DiffArgs, FAULT, Form, ImportArgs, Labels, Reach, Shown, Source};
 use prt_ask::{Comparison, Question};
@@ -85,7 +85,7 @@ fn keep_lines<F: ReadFiles, E: Write>(
     };
     let _kept = tell_left(alloc, None, &imported.notes, errors);
     let left = tell_left(alloc, None, &imported.left, errors);
-    let refused = tell_left(alloc, None, &accepted.left, errors);
+    let refused = tell_refused(alloc, &accepted.left, errors);
     Ok((accepted, or_left(left, refused), imported.left))
 }
 

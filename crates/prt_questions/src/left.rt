@@ -71,6 +71,17 @@ pub(crate) fn tell_left<E: Write>(
     if are_kernels(left) { DONE } else { REFUSED }
 }
 
+/// Reports which commands that were made of a listing are refused, and returns the exit status for it.
+pub(crate) fn tell_refused<E: Write>(alloc: Global, refused: &[OmittedLine], errors: &mut E) -> u8
+    ensures status { (result ≡ DONE) ⊎ (result ≡ REFUSED) }
+    ensures kernels { result ≡ DONE → AreKernels refused.now }
+{
+    for line in refused {
+        tell(refused_message(alloc, line), errors);
+    }
+    if are_kernels(refused) { DONE } else { REFUSED }
+}
+
 /// Returns the exit status for what was done, or if that is `DONE`, the one for what was left out before.
 pub(crate) fn or_left(done: u8, left: u8) -> u8
     ensures { ((done ≡ DONE) × (result ≡ left)) ⊎ ((done ≢ DONE) × (result ≡ done)) }
@@ -88,13 +99,28 @@ fn destination_of(question: &Question<'_>) -> Option<Addr>
     }
 }
 
-/// Makes the message of a comment that says what was left out of a script. What can't be printed is shown as `?`.
-fn comment_message(alloc: Global, script: &str, said: &[u8]) -> Result<String, AllocError> {
-    let mut message = format!(in alloc; "prt: {script}: the script left out: ")?;
-    for byte in said {
+/// Appends bytes to a message. What can't be printed is shown as `?`.
+fn push_shown(message: &mut String, bytes: &[u8]) -> Result<(), AllocError> {
+    for byte in bytes {
         let is_shown = *byte >= b' ' && *byte <= b'~';
         message.push(char::from(if is_shown { *byte } else { b'?' }))?;
     }
+    Ok(())
+}
+
+/// Makes the message of a comment that says what was left out of a script.
+fn comment_message(alloc: Global, script: &str, said: &[u8]) -> Result<String, AllocError> {
+    let mut message = format!(in alloc; "prt: {script}: the script left out: ")?;
+    push_shown(&mut message, said)?;
+    message.push('\n')?;
+    Ok(message)
+}
+
+/// Makes the message of a command that was made of a listing and is refused. The listing has it as a line of another number.
+fn refused_message(alloc: Global, refused: &OmittedLine) -> Result<String, AllocError> {
+    let reason = refused.reason;
+    let mut message = format!(in alloc; "prt: left out: {reason}: ")?;
+    push_shown(&mut message, refused.text.trim_ascii())?;
     message.push('\n')?;
     Ok(message)
 }

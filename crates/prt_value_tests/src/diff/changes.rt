@@ -40,8 +40,8 @@ rule add priority 700 fwmark 7/0xff table 7";
 
 const CHANGES: &str = "rule add priority 650 from all to 10.2.0.0/16 lookup 7
 rule add priority 700 from all fwmark 0x7/0xff lookup 7
-route replace 10.1.2.3 dev wg1 table 7 scope link
-route replace 10.2.0.0/16 dev wg0 table 7 scope link
+route replace 10.1.2.3 dev wg1 table 7 scope 253
+route replace 10.2.0.0/16 dev wg0 table 7 scope 253
 route replace 172.16.0.0/12 via 192.0.2.9 metric 8
 route replace default via 192.0.2.2 metric 10
 rule del priority 0 from all to all lookup local
@@ -346,7 +346,7 @@ route add 10.1.0.0/16 dev eth0 table 7",
     let text = text_of(rt.alloc(), &fence, &found, &wanted)?;
     assert_eq!(rt;
         text.as_slice(),
-        "route replace 10.1.0.0/16 dev eth0 table 7 scope link
+        "route replace 10.1.0.0/16 dev eth0 table 7 scope 253
 route del 10.0.0.0/8 table 7
 "
             .as_bytes()
@@ -467,7 +467,7 @@ route add 10.1/16 dev eth1 table 7 metric 5",
     assert_eq!(rt;
         text.as_slice(),
         "rule add priority 600 from 10.0.0.0/8 lookup 8
-route replace 10.1.0.0/16 dev eth1 table 7 scope link metric 5
+route replace 10.1.0.0/16 dev eth1 table 7 scope 253 metric 5
 rule del priority 600 from 10.0.0.0/8 to all lookup 7
 "
             .as_bytes()
@@ -531,7 +531,7 @@ route add 10.3/16 dev eth0",
     let text = text_of(rt.alloc(), &fence, &found, &wanted)?;
     assert_eq!(rt;
         text.as_slice(),
-        "route replace 10.1.0.0/16 dev eth0 proto 4 scope link metric 5\n".as_bytes()
+        "route replace 10.1.0.0/16 dev eth0 proto 4 scope 253 metric 5\n".as_bytes()
     );
     let held = held_between(rt.alloc(), &fence, &found, &wanted)?;
     assert!(rt;
@@ -615,9 +615,9 @@ rule add priority 0 from all lookup local
 rule add priority 500 from 10.0.0.0/8 lookup 7
 rule add priority 32766 from all lookup main
 rule add priority 32767 from all lookup default
-route replace 10.2.0.0/16 dev eth1 table 7 scope link
+route replace 10.2.0.0/16 dev eth1 table 7 scope 253
 route replace throw 10.4.0.0/16 table 7
-route replace 192.0.2.0/24 dev eth0 scope link
+route replace 192.0.2.0/24 dev eth0 scope 253
 route replace 10.1.0.0/16 via 192.0.2.9 table 7
 route replace default via 192.0.2.1
 "

@@ -61,9 +61,9 @@ route del 10.4/16 proto boot
 route flush proto bgp
 rule add table main";
 
-const NUMBERED: &str = "route add 10.1.0.0/16 dev eth0 proto 4 scope link
-route change 10.2.0.0/16 dev eth0 proto 99 scope link
-route replace 10.3.0.0/16 dev eth0 scope link
+const NUMBERED: &str = "route add 10.1.0.0/16 dev eth0 proto 4 scope 253
+route change 10.2.0.0/16 dev eth0 proto 99 scope 253
+route replace 10.3.0.0/16 dev eth0 scope 253
 route del 10.4.0.0/16 proto 3
 route flush table main proto 186
 rule add from all lookup main
