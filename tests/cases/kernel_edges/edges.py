@@ -93,11 +93,10 @@ def names_of_protocols():
     space.close()
 
 
-def numbers_of_protocols():
-    """A batch of `ip` stores a protocol with a name before and after one without, though it remembers the last name."""
+def numbers_of(items):
+    """A batch of `ip` stores what has a name before and after what has none, though it remembers the last name."""
     tables_of()
-    protocols = ["static", "99", "static"]
-    prt("batch", "--db", DATABASE, input=text_of(f"route add 10.{place}.0.0/16 dev eth0 proto {proto}" for place, proto in enumerate(protocols, 1)))
+    prt("batch", "--db", DATABASE, input=text_of(f"route add 10.{place}.0.0/16 dev eth0 {item}" for place, item in enumerate(items, 1)))
     brought, replaced = Space(), Space()
     print(prt("diff", *ALL, input=brought.listed()).stdout, end="")
     print(bring(brought, *ALL), end="")
@@ -107,6 +106,14 @@ def numbers_of_protocols():
     print(repr(differs(brought, *ALL)), routes == others)
     for each in (brought, replaced):
         each.close()
+
+
+def numbers_of_protocols():
+    numbers_of(["proto static", "proto 99", "proto static"])
+
+
+def numbers_of_scopes():
+    numbers_of(["scope link", "scope 100", "scope link"])
 
 
 def names_with_quotes():
@@ -222,7 +229,7 @@ def rules_of_priority_0():
 
 
 EDGES = [
-    rules_of_priority_0, mark_of_zero, unknown_selectors, copied_connected_routes, gateway_without_device, names_of_protocols, numbers_of_protocols,
+    rules_of_priority_0, mark_of_zero, unknown_selectors, copied_connected_routes, gateway_without_device, names_of_protocols, numbers_of_protocols, numbers_of_scopes,
     names_with_quotes, several_next_hops, place_that_is_taken, network_of_an_address, beside_what_cannot_be_kept, other_listings,
 ]
 for edge in EDGES:

@@ -16,4 +16,4 @@ returns-clause-made g c = record {
 pub returns-clause-kept : goal.returns-clause-kept
 returns-clause-kept g c = λ done.
     let both = both_done _ _ _ c.or_left.ensures done in
-    (subst AreKernels c.deref-3.ensures.value (c.tell_left-left.ensures.kernels both.0), subst AreKernels c.deref-4.ensures.value (c.tell_refused.ensures.kernels both.1))
+    (subst AreKernels c.deref-3.ensures.value (c.tell_left-left.ensures.kernels both.0), subst AreKernels c.deref-4.ensures.value (c.tell_refused-refused.ensures.kernels both.1))
